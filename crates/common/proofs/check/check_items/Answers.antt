@@ -1,0 +1,25 @@
+use mathlib.Core.Path.{refl, sym, ap, _∙_}
+use Rattle.std.specs.declared.result.Result.the-variants.{Err}
+use Rattle.std.proofs.shelf.Lists.{drop-all}
+use Rattle.std.proofs.shelf.Results.{err-from-errBy}
+use Rattle.common.specs.Firsts.{orFault, firstFault}
+use Rattle.common.proofs.Searches.{none-from-ok, some-from-err, fault-here, fault-next}
+use Rattle.common.proofs.check.check_items.Needs as need
+
+pub loop-i-holds : need.loop-i-holds
+loop-i-holds g c = refl
+
+pub returns-in-Break-check : need.returns-in-Break-check
+returns-in-Break-check g c =
+    let p = err-from-errBy (c .from-residual .result) (c .from-residual .ensures .1) in
+    let here = some-from-err _ _ _ (c .in-Break-check .ensures tt) in
+    let all = c .loop-i .inv ∙ fault-here _ _ _ _ (c .index-items-i .is) (c .loop-i-test .taken) _ _ here in
+    p .1 ∙ ap (λ e. Err e) (p .2) ∙ ap (λ o. orFault o tt) (sym all)
+
+pub loop-i-again : need.loop-i-again
+loop-i-again g c =
+    c .loop-i .inv ∙ fault-next _ _ _ _ (c .index-items-i .is) (c .loop-i-test .taken) _ (none-from-ok _ _ _ (c .in-Continue-check .ensures tt))
+
+pub returns : need.returns
+returns g c =
+    ap (λ o. orFault o tt) (sym (c .loop-i .inv ∙ ap (λ l. firstFault (g .C·ItemCheck .faults (c .args .check .now)) l (c .loop-i .i)) (drop-all _ _ (c .loop-i-test .left))))
