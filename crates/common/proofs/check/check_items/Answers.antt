@@ -12,13 +12,17 @@ loop-i-holds g c = refl
 pub returns-in-Break-check : need.returns-in-Break-check
 returns-in-Break-check g c =
     let p = err-from-errBy (c .from-residual .result) (c .from-residual .ensures .1) in
-    let here = some-from-err _ _ _ (c .in-Break-check .ensures tt) in
-    let all = c .loop-i .inv ∙ fault-here _ _ _ _ (c .index-items-i .is) (c .loop-i-test .taken) _ _ here in
+    let faults = g .C·ItemCheck .faults (c .args .check .now) in
+    let x = c .index-items-i .result in
+    let here = some-from-err (faults x (c .loop-i .i)) tt (c .in-Break-check .field-0 .0) (c .in-Break-check .ensures tt) in
+    let all = c .loop-i .inv ∙ fault-here (c .args .items .now) (c .loop-i .i) x x (c .index-items-i .is) (c .loop-i-test .taken) faults (c .in-Break-check .field-0 .0) here in
     p .1 ∙ ap (λ e. Err e) (p .2) ∙ ap (λ o. orFault o tt) (sym all)
 
 pub loop-i-again : need.loop-i-again
 loop-i-again g c =
-    c .loop-i .inv ∙ fault-next _ _ _ _ (c .index-items-i .is) (c .loop-i-test .taken) _ (none-from-ok _ _ _ (c .in-Continue-check .ensures tt))
+    let faults = g .C·ItemCheck .faults (c .args .check .now) in
+    let x = c .index-items-i .result in
+    c .loop-i .inv ∙ fault-next (c .args .items .now) (c .loop-i .i) x x (c .index-items-i .is) (c .loop-i-test .taken) faults (none-from-ok (faults x (c .loop-i .i)) tt tt (c .in-Continue-check .ensures tt))
 
 pub returns : need.returns
 returns g c =
