@@ -26,6 +26,10 @@ pub some-from-err : {X : Type 0} (o : Option Fault) (x : X) (f : Fault) → Err 
 some-from-err None x f e = absurd (let z : _≡_ {A = ℕ} 0 1 = cc in omega arith)
 some-from-err (Some g) x f e = cc
 
+pub ok-is : {X : Type 0} (o : Option Fault) (x y : X) → Ok y ≡ orFault o x → y ≡ x
+ok-is None x y e = cc
+ok-is (Some f) x y e = absurd (let z : _≡_ {A = ℕ} 0 1 = cc in omega arith)
+
 -- The item x stands at i.
 module _ {X : Type 0} (xs : List X) (i : ℕ) (x d : X) (at : x ≡ getD xs i d) (h : i < length xs) where
   pub head : drop i xs ≡ x ∷ drop (i + 1) xs

@@ -3,7 +3,7 @@ ghost use mathlib.Core.Path.{_≡_};
 ghost use Rattle.std.specs.Options.{okOr};
 ghost use Rattle.common.specs.Types.{typeNumber, typeOf, holds, fits};
 use crate::refusal::Fault;
-use crate::refusal::Refusal;
+use std::fmt;
 
 // A type, by the number that callers give.
 #[derive(Clone, Copy, PartialEq, Eq, Debug)]
@@ -79,5 +79,20 @@ impl Value {
             Value::Whole(n) => data_type.holds(n),
             Value::Text(_) => data_type == DataType::Utf8,
         }
+    }
+}
+
+pub impl fmt::Display for DataType as DataTypeDisplay {
+    fn fmt<W: fmt::Write>(&self, f: &mut fmt::Formatter<W>) -> fmt::Result {
+        f.write_str(
+            match *self {
+                DataType::Int8 => "Int8",
+                DataType::Int16 => "Int16",
+                DataType::Int32 => "Int32",
+                DataType::Int64 => "Int64",
+                DataType::Boolean => "Boolean",
+                DataType::Utf8 => "Utf8",
+            },
+        )
     }
 }

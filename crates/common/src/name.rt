@@ -53,7 +53,8 @@ impl Name {
     }
 }
 
-fn equal_bytes(a: &[u8], b: &[u8]) -> bool
+// Whether two runs of bytes are the same.
+pub fn equal_bytes(a: &[u8], b: &[u8]) -> bool
     ensures { λ r. ⌜ r ≡ sameBytes (now (a .entry)) (now (b .entry)) ⌝ }
 {
     a == b

@@ -15,7 +15,7 @@ use Rattle.common.specs.declared.refusal.Fault.{Fault}
 use Rattle.common.specs.declared.refusal.Refusal.{Refusal}
 use Rattle.common.specs.declared.refusal.Refusal.the-variants.{ListTooShort}
 use Rattle.common.specs.Firsts.{andThen, fault, firstFault, orFault, unless}
-use Rattle.common.proofs.Searches.{none-from-ok}
+use Rattle.common.proofs.Searches.{none-from-ok, ok-is}
 use Rattle.index_lists.specs.Combine.{combine, combined, combineFault, counted, indexFault, outputAfter, readBy, readByAny, roomFault}
 
 -- Two checks that find nothing each find nothing.
@@ -48,10 +48,6 @@ module _ {Cell : Type 0} (missing : Cell) (row : List Cell) (lower : List ℕ) w
   reads-over upper room e = reads-all upper 0 (first-none (firstFault (indexFault lower) upper 0) (roomFault upper room) e)
 
 -- What is granted is the answer.
-ok-is : {X : Type 0} (o : Option Fault) (x y : X) → Ok y ≡ orFault o x → y ≡ x
-ok-is None x y e = cc
-ok-is (Some f) x y e = absurd (let z : _≡_ {A = ℕ} 0 1 = cc in omega arith)
-
 granted-is : (o : Option Fault) (x y : List ℕ) → orFault o (Some x) ≡ Ok (Some y) → y ≡ x
 granted-is o x y e = let h = ok-is o (Some x) (Some y) (sym e) in cc
 

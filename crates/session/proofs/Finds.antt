@@ -2,6 +2,7 @@
 use mathlib.Core.List.{List, map}
 use mathlib.Core.Path.{_≡_, sym, ap, _∙_}
 use Prim.Native.Nat.{ℕ}
+use lib.ListN.{length}
 use Rattle.std.specs.Options.{okOr}
 use Rattle.std.specs.declared.option.Option.{Option}
 use Rattle.std.specs.declared.option.Option.the-variants.{None, Some}
@@ -44,3 +45,11 @@ module _ (v : View) where
   pub columns-refused : (f : Fault) → Err f ≡ orFault (checks v) (schemaOf (v .fields)) → columnsOf v ≡ Err f
   columns-refused f e =
       ap (λ o. orFault o (readByAny None (map Some (schemaOf (v .fields))) (v .beneath))) (some-from-err (checks v) (schemaOf (v .fields)) f e)
+
+  pub counts : (within : List Field) → Ok within ≡ orFault (checks v) (schemaOf (v .fields)) → Ok (length within) ≡ orFault (checks v) (length (schemaOf (v .fields)))
+  counts within e =
+      ap (λ l. Ok (length l)) (ok-is (checks v) (schemaOf (v .fields)) within e)
+      ∙ sym (ap (λ o. orFault o (length (schemaOf (v .fields)))) (none-from-ok (checks v) (schemaOf (v .fields)) within e))
+
+  pub counts-refused : (f : Fault) → Err f ≡ orFault (checks v) (schemaOf (v .fields)) → Err f ≡ orFault (checks v) (length (schemaOf (v .fields)))
+  counts-refused f e = sym (ap (λ o. orFault o (length (schemaOf (v .fields)))) (some-from-err (checks v) (schemaOf (v .fields)) f e))

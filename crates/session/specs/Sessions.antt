@@ -1,5 +1,5 @@
 -- What a session keeps, as plain lists.
-use mathlib.Core.List.{List, map}
+use mathlib.Core.List.{List, [], _∷_, _++_, map}
 use mathlib.Core.Path.{_≡_}
 use Prim.Native.Nat.{ℕ, min}
 use lib.ListN.{length}
@@ -29,10 +29,26 @@ pub record View : Type 0 where
 abbrev pub view : Session → View
 view s = record { text = vec-items (s .text); fields = vec-items (s .fields); beneath = mapped vec-items (s .beneath) }
 
+-- Another text, with no field and no list.
+abbrev pub withText : List ℕ → View
+withText t = record { text = t; fields = []; beneath = None }
+
+-- One field more.
+abbrev pub withField : View → Field → View
+withField v f = record { text = v .text; fields = v .fields ++ f ∷ []; beneath = v .beneath }
+
+-- Another list for the next one to stand on.
+abbrev pub withBeneath : View → Option (List ℕ) → View
+withBeneath v list = record { text = v .text; fields = v .fields; beneath = list }
+
 -- The answer of a check that may find a fault, or what follows it.
 abbrev pub afterFault : {X : Type 0} → Option Fault → Result X Fault → Result X Fault
 afterFault None next = next
 afterFault (Some f) next = Err f
+
+-- How many fields the schema has, once it has passed its checks.
+abbrev pub schemaCount : View → Result ℕ Fault
+schemaCount v = orFault (schemaFault (v .text) (v .fields)) (length (schemaOf (v .fields)))
 
 -- The first field of the name, once the schema has passed its checks.
 abbrev pub findField : View → Name → Result ℕ Fault

@@ -31,7 +31,11 @@ fn cells_of(heap: Global, fields: &[Field]) -> Result<Vec<Option<Field>>, AllocE
 }
 
 // The row's cells at the indices, `None` for an index past its end.
-fn select_from(heap: Global, row: &[Option<Field>], indices: &[u32]) -> Result<Vec<Option<Field>>, Trouble>
+fn select_from(
+    heap: Global,
+    row: &[Option<Field>],
+    indices: &[u32],
+) -> Result<Vec<Option<Field>>, Trouble>
     ensures { λ r. ⌜ Answers (Ok (readBy None (now (row .entry)) (now (indices .entry)))) (results.mapped vec-items (λ e. e) r) ⌝ }
 {
     let mut out = vec![in heap; None; indices.len()]?;
@@ -40,7 +44,11 @@ fn select_from(heap: Global, row: &[Option<Field>], indices: &[u32]) -> Result<V
 }
 
 // The row's cells by a list that may be absent: the row as it stands then.
-fn pick(heap: Global, row: Vec<Option<Field>>, indices: Option<&[u32]>) -> Result<Vec<Option<Field>>, Trouble>
+fn pick(
+    heap: Global,
+    row: Vec<Option<Field>>,
+    indices: Option<&[u32]>,
+) -> Result<Vec<Option<Field>>, Trouble>
     ensures { λ r. ⌜ Answers (Ok (readByAny None (vec-items row) (mapped now (indices .entry)))) (results.mapped vec-items (λ e. e) r) ⌝ }
 {
     match indices {
@@ -52,7 +60,7 @@ fn pick(heap: Global, row: Vec<Option<Field>>, indices: Option<&[u32]>) -> Resul
 impl Session {
     // The fields that the standing list picks from the schema, `None` for an index past its end; all of them where the list
     // is absent.
-    pub fn columns(&self, heap: Global) -> Result<Vec<Option<Field>>, Trouble>
+    pub(crate) fn columns(&self, heap: Global) -> Result<Vec<Option<Field>>, Trouble>
         ensures { λ r. ⌜ Answers (columnsOf (view (now (self .entry)))) (results.mapped vec-items (λ e. e) r) ⌝ }
     {
         let row = cells_of(heap, self.schema()?)?;

@@ -1,18 +1,18 @@
 // The text, the fields and the index list that stand, and the calls on them.
 ghost use denote.Ref.{now};
 ghost use mathlib.Core.Bool.{cond};
-ghost use mathlib.Core.List.{[], _∷_, _++_};
+ghost use mathlib.Core.List.{[]};
 ghost use mathlib.Core.Path.{_≡_};
 ghost use lib.ListN.{length};
 ghost use Rattle.std.specs.Of.Vec.{vec-items, vec-len};
 ghost use Rattle.std.specs.Options.{mapped};
 ghost use Rattle.std.specs.Results as results;
-ghost use Rattle.std.specs.Results.{Cases, isOk};
-ghost use Rattle.std.specs.declared.option.Option.the-variants.{None};
+ghost use Rattle.std.specs.Results.{isOk};
+ghost use Rattle.std.specs.declared.result.Result.the-variants.{Ok};
 ghost use Rattle.common.specs.Firsts.{orFault};
 ghost use Rattle.common.specs.Schemas.{schemaFault, schemaOf};
 ghost use Rattle.index_lists.specs.Combine.{combine, counted, outputAfter};
-ghost use Rattle.session.specs.Sessions.{Answers, combineOn, findField, roomFor, standing, view};
+ghost use Rattle.session.specs.Sessions.{Answers, combineOn, findField, roomFor, schemaCount, standing, view, withBeneath, withField, withText};
 use crate::trouble::Trouble;
 use crate::trouble::TroubleFromAlloc;
 use crate::trouble::TroubleFromFault;
@@ -38,35 +38,39 @@ pub struct Session {
 impl Session {
     // Nothing stands yet.
     pub fn new(heap: Global) -> Session
-        ensures { λ r. ⌜ view r ≡ record { text = []; fields = []; beneath = None } ⌝ }
+        ensures { λ r. ⌜ view r ≡ withText [] ⌝ }
     {
-        Session { text: Vec::new(heap), fields: Vec::new(heap), beneath: None }
+        Session {
+            text: Vec::new(heap),
+            fields: Vec::new(heap),
+            beneath: None,
+        }
     }
 
     // The text of names.
-    pub fn text(&self) -> &[u8]
+    pub(crate) fn text(&self) -> &[u8]
         ensures { λ r. ⌜ now r ≡ view (now (self .entry)) .text ⌝ }
     {
         self.text.as_slice()
     }
 
     // The fields given so far.
-    pub fn fields(&self) -> &[Field]
+    pub(crate) fn fields(&self) -> &[Field]
         ensures { λ r. ⌜ now r ≡ view (now (self .entry)) .fields ⌝ }
     {
         self.fields.as_slice()
     }
 
     // The list that the next one is to stand on.
-    pub fn beneath(&self) -> Option<&[u32]>
+    pub(crate) fn beneath(&self) -> Option<&[u32]>
         ensures { λ r. ⌜ mapped now r ≡ view (now (self .entry)) .beneath ⌝ }
     {
         as_slice(&self.beneath)
     }
 
     // Another text begins anew: no field and no list stands.
-    pub fn set_text(&mut self, text: Vec<u8>)
-        ensures { λ _. ⌜ view (now (self .exit)) ≡ record { text = vec-items text; fields = []; beneath = None } ⌝ }
+    pub(crate) fn set_text(&mut self, text: Vec<u8>)
+        ensures { λ _. ⌜ view (now (self .exit)) ≡ withText (vec-items text) ⌝ }
     {
         self.text = text;
         self.fields.clear();
@@ -74,10 +78,9 @@ impl Session {
     }
 
     // One field more; the answer is its place.
-    pub fn add_field(&mut self, field: Field) -> Result<usize, Trouble>
-        ensures { λ r. ⌜ Cases r
-            (λ place. (place ≡ length (view (now (self .entry)) .fields)) × (view (now (self .exit)) ≡ record { text = view (now (self .entry)) .text; fields = view (now (self .entry)) .fields ++ field ∷ []; beneath = view (now (self .entry)) .beneath }))
-            (λ e. (e ≡ Trouble.Memory) × (view (now (self .exit)) ≡ view (now (self .entry)))) ⌝ }
+    pub(crate) fn add_field(&mut self, field: Field) -> Result<usize, Trouble>
+        ensures value { λ r. ⌜ Answers (Ok (length (view (now (self .entry)) .fields))) r ⌝ }
+        ensures after { λ r. ⌜ view (now (self .exit)) ≡ cond (isOk r) (withField (view (now (self .entry))) field) (view (now (self .entry))) ⌝ }
     {
         let place = self.fields.len();
         self.fields.push(field)?;
@@ -85,7 +88,7 @@ impl Session {
     }
 
     // The schema that the fields are.
-    pub fn schema(&self) -> Result<&[Field], Fault>
+    pub(crate) fn schema(&self) -> Result<&[Field], Fault>
         ensures { λ r. ⌜ results.mapped now (λ e. e) r ≡ orFault (schemaFault (view (now (self .entry)) .text) (view (now (self .entry)) .fields)) (schemaOf (view (now (self .entry)) .fields)) ⌝ }
     {
         let text = self.text();
@@ -93,8 +96,16 @@ impl Session {
         schema(text, fields)
     }
 
+    // How many fields the schema has.
+    pub(crate) fn schema_len(&self) -> Result<usize, Fault>
+        ensures { λ r. ⌜ r ≡ schemaCount (view (now (self .entry))) ⌝ }
+    {
+        let within = self.schema()?;
+        Ok(within.len())
+    }
+
     // The place of the schema's first field of that name.
-    pub fn find(&self, name: Name) -> Result<usize, Fault>
+    pub(crate) fn find(&self, name: Name) -> Result<usize, Fault>
         ensures { λ r. ⌜ r ≡ findField (view (now (self .entry))) name ⌝ }
     {
         let within = self.schema()?;
@@ -105,17 +116,22 @@ impl Session {
     }
 
     // The list that the next one is to stand on.
-    pub fn set_beneath(&mut self, list: Option<Vec<u32>>)
-        ensures { λ _. ⌜ view (now (self .exit)) ≡ record { text = view (now (self .entry)) .text; fields = view (now (self .entry)) .fields; beneath = mapped vec-items list } ⌝ }
+    pub(crate) fn set_beneath(&mut self, list: Option<Vec<u32>>)
+        ensures { λ _. ⌜ view (now (self .exit)) ≡ withBeneath (view (now (self .entry))) (mapped vec-items list) ⌝ }
     {
         self.beneath = list;
     }
 
     // The upper list over the one that stands, with an output list of so much room; the answer stands from then on, and
     // tells how many columns it has. Refused, everything is as before.
-    pub fn combine(&mut self, heap: Global, upper: Option<Vec<u32>>, room: Option<u32>) -> Result<Option<usize>, Trouble>
+    pub(crate) fn combine(
+        &mut self,
+        heap: Global,
+        upper: Option<Vec<u32>>,
+        room: Option<u32>,
+    ) -> Result<Option<usize>, Trouble>
         ensures value { λ r. ⌜ Answers (counted (combineOn (view (now (self .entry))) (mapped vec-items upper) room)) r ⌝ }
-        ensures after { λ r. ⌜ view (now (self .exit)) ≡ cond (isOk r) (record { text = view (now (self .entry)) .text; fields = view (now (self .entry)) .fields; beneath = standing (combineOn (view (now (self .entry))) (mapped vec-items upper) room) (view (now (self .entry)) .beneath) }) (view (now (self .entry))) ⌝ }
+        ensures after { λ r. ⌜ view (now (self .exit)) ≡ cond (isOk r) (withBeneath (view (now (self .entry))) (standing (combineOn (view (now (self .entry))) (mapped vec-items upper) room) (view (now (self .entry)) .beneath))) (view (now (self .entry))) ⌝ }
     {
         let list = combined(heap, &upper, &self.beneath, room)?;
         let count = count_of(&list);
@@ -125,7 +141,11 @@ impl Session {
 }
 
 // An upper list over a lower one, over the front of the output.
-fn combine_into(upper: &Option<Vec<u32>>, lower: &Option<Vec<u32>>, out: &mut Vec<u32>) -> Result<Option<usize>, Fault>
+fn combine_into(
+    upper: &Option<Vec<u32>>,
+    lower: &Option<Vec<u32>>,
+    out: &mut Vec<u32>,
+) -> Result<Option<usize>, Fault>
     ensures value { λ r. ⌜ r ≡ counted (combine (mapped vec-items (now (upper .entry))) (mapped vec-items (now (lower .entry))) (vec-len (now (out .entry)))) ⌝ }
     ensures after { λ _. ⌜ vec-items (now (out .exit)) ≡ outputAfter (combine (mapped vec-items (now (upper .entry))) (mapped vec-items (now (lower .entry))) (vec-len (now (out .entry)))) (vec-items (now (out .entry))) ⌝ }
 {
@@ -133,7 +153,12 @@ fn combine_into(upper: &Option<Vec<u32>>, lower: &Option<Vec<u32>>, out: &mut Ve
 }
 
 // An upper list over a lower one, by an output list of so much room.
-fn combined(heap: Global, upper: &Option<Vec<u32>>, lower: &Option<Vec<u32>>, room: Option<u32>) -> Result<Option<Vec<u32>>, Trouble>
+fn combined(
+    heap: Global,
+    upper: &Option<Vec<u32>>,
+    lower: &Option<Vec<u32>>,
+    room: Option<u32>,
+) -> Result<Option<Vec<u32>>, Trouble>
     ensures { λ r. ⌜ Answers (combine (mapped vec-items (now (upper .entry))) (mapped vec-items (now (lower .entry))) (roomFor (mapped vec-items (now (upper .entry))) room)) (results.mapped (mapped vec-items) (λ e. e) r) ⌝ }
 {
     let mut out = vec![in heap; 0; room_for(upper, room)]?;
@@ -168,7 +193,7 @@ fn room_for(upper: &Option<Vec<u32>>, room: Option<u32>) -> usize
 }
 
 // How many indices an optional list has.
-fn count_of(list: &Option<Vec<u32>>) -> Option<usize>
+pub(crate) fn count_of(list: &Option<Vec<u32>>) -> Option<usize>
     ensures { λ r. ⌜ r ≡ mapped length (mapped vec-items (now (list .entry))) ⌝ }
 {
     match list {

@@ -1,0 +1,9 @@
+pub mod Words
+pub mod Types
+pub mod Numbers
+pub mod Names
+pub mod Fields
+pub mod Outcomes
+pub mod Lists
+pub mod Keywords
+pub mod Lines
