@@ -5,6 +5,7 @@ mod tests {
     use common::DataTypePartialEq;
     use common::Fault;
     use common::FaultDebug;
+    use common::FaultDisplay;
     use common::FaultPartialEq;
     use common::Field;
     use common::Name;
@@ -241,5 +242,45 @@ mod tests {
             position: 0,
         });
         check_eq(select(&[30u8, 40], 7, &[1, 0, 2], &mut [0u8; 2]), refused)
+    }
+
+    // What a person is told of a refusal at position 7 begins so, and goes on with a sentence.
+    fn is_told(heap: Global, refusal: Refusal, number: u8) -> Result<(), Fail> {
+        let told = format!(heap, "{}", refusal.at(7))?;
+        let start = format!(heap, "refused ({number}) at 7: ")?;
+        check(told.as_str().starts_with(start.as_str()))?;
+        check(told.len() > start.len() + 20)
+    }
+
+    #[test]
+    fn every_refusal_is_told_in_a_sentence(rt: LibcRuntime) -> Result<(), Fail> {
+        let refusals = [
+            Refusal::FieldName,
+            Refusal::FieldType,
+            Refusal::TooManyArguments,
+            Refusal::TooManyLevels,
+            Refusal::TooFewLevels,
+            Refusal::TooManyItems,
+            Refusal::UnknownType,
+            Refusal::ValueDoesNotFit,
+            Refusal::UnknownNode,
+            Refusal::NoName,
+            Refusal::IndexPastList,
+            Refusal::IndexPastSchema,
+            Refusal::NoEqualColumn,
+            Refusal::NoSuchField,
+            Refusal::OtherFieldName,
+            Refusal::MissingField,
+            Refusal::TooManyNodes,
+            Refusal::BatchFull,
+            Refusal::ListTooShort,
+        ];
+        let mut number: u8 = 0;
+        for refusal in refusals {
+            number = number.saturating_add(1);
+            check_eq(refusal.number(), number)?;
+            is_told(rt.alloc(), refusal, number)?;
+        }
+        Ok(())
     }
 }

@@ -1,9 +1,9 @@
 // Lines of a script and their answers, run as examples.
 #[cfg(test)]
 mod tests {
-    use session::HELP;
+    use replies::HELP;
+    use replies::reply;
     use session::Session;
-    use session::reply;
     use std::alloc::Global;
     use std::test::*;
 

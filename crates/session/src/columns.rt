@@ -60,7 +60,7 @@ fn pick(
 impl Session {
     // The fields that the standing list picks from the schema, `None` for an index past its end; all of them where the list
     // is absent.
-    pub(crate) fn columns(&self, heap: Global) -> Result<Vec<Option<Field>>, Trouble>
+    pub fn columns(&self, heap: Global) -> Result<Vec<Option<Field>>, Trouble>
         ensures { λ r. ⌜ Answers (columnsOf (view (now (self .entry)))) (results.mapped vec-items (λ e. e) r) ⌝ }
     {
         let row = cells_of(heap, self.schema()?)?;

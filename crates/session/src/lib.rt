@@ -2,16 +2,12 @@
 mod answer;
 mod columns;
 mod perform;
-mod show;
 mod state;
 mod trouble;
-mod words;
 
 pub use answer::Answer;
 pub use answer::AnswerDebug;
 pub use answer::AnswerPartialEq;
-pub use show::Plain;
-pub use show::PlainDisplay;
 pub use state::Session;
 pub use trouble::Trouble;
 pub use trouble::TroubleDebug;
@@ -19,5 +15,3 @@ pub use trouble::TroubleFromAlloc;
 pub use trouble::TroubleFromFault;
 pub use trouble::TroubleFromRefused;
 pub use trouble::TroublePartialEq;
-pub use words::HELP;
-pub use words::reply;

@@ -48,21 +48,21 @@ impl Session {
     }
 
     // The text of names.
-    pub(crate) fn text(&self) -> &[u8]
+    pub fn text(&self) -> &[u8]
         ensures { λ r. ⌜ now r ≡ view (now (self .entry)) .text ⌝ }
     {
         self.text.as_slice()
     }
 
     // The fields given so far.
-    pub(crate) fn fields(&self) -> &[Field]
+    pub fn fields(&self) -> &[Field]
         ensures { λ r. ⌜ now r ≡ view (now (self .entry)) .fields ⌝ }
     {
         self.fields.as_slice()
     }
 
     // The list that the next one is to stand on.
-    pub(crate) fn beneath(&self) -> Option<&[u32]>
+    pub fn beneath(&self) -> Option<&[u32]>
         ensures { λ r. ⌜ mapped now r ≡ view (now (self .entry)) .beneath ⌝ }
     {
         as_slice(&self.beneath)

@@ -1,9 +1,9 @@
 // Reads a script of calls from standard input and answers each line on standard output.
-use session::HELP;
-use session::Plain;
-use session::PlainDisplay;
+use replies::HELP;
+use replies::Plain;
+use replies::PlainDisplay;
+use replies::reply;
 use session::Session;
-use session::reply;
 use std::env;
 use std::io;
 use std::io::BufRead;

@@ -2,21 +2,21 @@
 ghost use mathlib.Core.Path.{_≡_};
 ghost use Rattle.std.specs.Vec.{made};
 ghost use Rattle.script.specs.Lines.{lineOf};
 ghost use Rattle.session.specs.Sessions.{view};
 ghost use Rattle.session.specs.Steps.{steppedBy};
-use crate::answer::Answer;
 use crate::show::ColumnList;
 use crate::show::ColumnListDisplay;
 use crate::show::FieldList;
 use crate::show::FieldListDisplay;
 use crate::show::IndexList;
 use crate::show::IndexListDisplay;
-use crate::state::Session;
-use crate::trouble::Trouble;
 use common::FaultDisplay;
 use script::MalformedDisplay;
 use script::ParseError;
 use script::parse;
+use session::Answer;
+use session::Session;
+use session::Trouble;
 use std::alloc::AllocError;
 use std::alloc::Global;
 
