@@ -10,12 +10,13 @@ use lib.ListN.{length, take, drop, getD}
 use lib.Seq.{drop-cons}
 use Rattle.std.proofs.shelf.Lists.{take-all}
 use Rattle.std.proofs.shelf.Tests.{cond-both, cases-lt}
+use Rattle.std.specs.Results.{errPart}
 use Rattle.std.specs.declared.option.Option.{Option}
 use Rattle.std.specs.declared.option.Option.the-variants.{None, Some}
 use Rattle.std.specs.declared.result.Result.{Result}
 use Rattle.std.specs.declared.result.Result.the-variants.{Ok, Err}
 use Rattle.common.specs.declared.refusal.Fault.{Fault}
-use Rattle.common.specs.Firsts.{orFault, andThen, firstFault, firstPlace, First}
+use Rattle.common.specs.Firsts.{Earliest, First, andThen, firstFault, firstPlace, orFault}
 
 -- What came out of a check says whether it found a fault.
 pub none-from-ok : {X : Type 0} (o : Option Fault) (x y : X) → Ok y ≡ orFault o x → o ≡ None
@@ -46,6 +47,50 @@ module _ {X : Type 0} (xs : List X) (i : ℕ) (x d : X) (at : x ≡ getD xs i d)
 
   pub place-next : (test : X → Bool) → test x ≡ false → firstPlace test (drop i xs) i ≡ firstPlace test (drop (i + 1) xs) (i + 1)
   place-next test e = ap (λ l. firstPlace test l i) head ∙ ap (λ b. cond b (Some i) (firstPlace test (drop (i + 1) xs) (i + 1))) e
+
+-- ---- the law of the first fault
+
+-- The same, the items being counted from p.
+abbrev EarliestFrom : {X : Type 0} → (X → ℕ → Option Fault) → List X → ℕ → Option Fault → Type 0
+EarliestFrom faults xs p r = Earliest (λ x k. faults x (p + k)) xs r
+
+module _ {X : Type 0} (faults : X → ℕ → Option Fault) (x : X) (xs : List X) (p : ℕ) where
+  at-front : (o : Option Fault) → faults x p ≡ o → faults x (p + 0) ≡ o
+  at-front o e = let z : p + 0 ≡ p = omega arith in ap (faults x) z ∙ e
+
+  at-next : (o : Option Fault) (k : ℕ) (d : X) → faults (getD xs k d) ((p + 1) + k) ≡ o → faults (getD xs k d) (p + suc k) ≡ o
+  at-next o k d e = let z : p + suc k ≡ (p + 1) + k = omega arith in ap (faults (getD xs k d)) z ∙ e
+
+  none-before : (n : ℕ) → faults x p ≡ None → ((k : ℕ) (d : X) → k < n → faults (getD xs k d) ((p + 1) + k) ≡ None) → (k : ℕ) (d : X) → k < suc n → faults (getD (x ∷ xs) k d) (p + k) ≡ None
+  none-before n e all zero d h = at-front None e
+  none-before n e all (suc k) d h = at-next None k d (all k d (omega arith))
+
+  earliest-more : (o r : Option Fault) → faults x p ≡ o → EarliestFrom faults xs (p + 1) r → EarliestFrom faults (x ∷ xs) p (andThen o r)
+  earliest-more (Some f) r e h = (0, omega arith, λ d. at-front (Some f) e, λ j d lt. absurd (omega arith))
+  earliest-more None None e h = λ k d lt. none-before (length xs) e h k d lt
+  earliest-more None (Some f) e h = (suc (h .0), omega (arith, h .1), λ d. at-next (Some f) (h .0) d (h .2 d), none-before (h .0) e (h .3))
+
+earliest-from : {X : Type 0} (faults : X → ℕ → Option Fault) (xs : List X) (p : ℕ) → EarliestFrom faults xs p (firstFault faults xs p)
+earliest-from faults [] p = λ k d h. absurd (omega arith)
+earliest-from faults (x ∷ xs) p = earliest-more faults x xs p (faults x p) (firstFault faults xs (p + 1)) refl (earliest-from faults xs (p + 1))
+
+module _ {X : Type 0} (faults : X → ℕ → Option Fault) (xs : List X) where
+  at-zero : (o : Option Fault) (k : ℕ) (d : X) → faults (getD xs k d) (0 + k) ≡ o → faults (getD xs k d) k ≡ o
+  at-zero o k d e = let z : k ≡ 0 + k = omega arith in ap (faults (getD xs k d)) z ∙ e
+
+  earliest-start : (r : Option Fault) → EarliestFrom faults xs 0 r → Earliest faults xs r
+  earliest-start None h = λ k d lt. at-zero None k d (h k d lt)
+  earliest-start (Some f) h = (h .0, h .1, λ d. at-zero (Some f) (h .0) d (h .2 d), λ j d lt. at-zero None j d (h .3 j d lt))
+
+  fault-of : (o : Option Fault) → errPart (orFault {X = Unit {0}} o tt) ≡ o
+  fault-of None = refl
+  fault-of (Some f) = refl
+
+  -- What a search for the first fault answered is the earliest.
+  pub earliest : (r : Result (Unit {0}) Fault) → r ≡ orFault (firstFault faults xs 0) tt → Earliest faults xs (errPart r)
+  earliest r e =
+      let it : firstFault faults xs 0 ≡ errPart r = sym (ap errPart e ∙ fault-of (firstFault faults xs 0)) in
+      subst (λ o. Earliest faults xs o) it (earliest-start (firstFault faults xs 0) (earliest-from faults xs 0))
 
 -- ---- the law of a search
 

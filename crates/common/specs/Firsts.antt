@@ -34,6 +34,12 @@ abbrev pub firstFault : {X : Type 0} → (X → ℕ → Option Fault) → List X
 firstFault faults [] p = None
 firstFault faults (x ∷ xs) p = andThen (faults x p) (firstFault faults xs (p + 1))
 
+-- The law of the first fault: an item has it and none before that item has one; with no fault, no item has one.
+abbrev pub Earliest : {X : Type 0} → (X → ℕ → Option Fault) → List X → Option Fault → Type 0
+Earliest {X} faults xs None = (k : ℕ) (d : X) → k < length xs → faults (getD xs k d) k ≡ None
+Earliest {X} faults xs (Some f) =
+    (k : ℕ) × (k < length xs) × ((d : X) → faults (getD xs k d) k ≡ Some f) × ((j : ℕ) (d : X) → j < k → faults (getD xs j d) j ≡ None)
+
 -- The place of the first item that passes a test, the items being counted from a place.
 abbrev pub firstPlace : {X : Type 0} → (X → Bool) → List X → ℕ → Option ℕ
 firstPlace test [] p = None

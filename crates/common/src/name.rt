@@ -1,5 +1,4 @@
 // A name is a part of a text of names: two names are equal by place or by bytes.
-ghost use mathlib.Core.Bool.{true};
 ghost use mathlib.Core.Path.{_≡_};
 ghost use Prim.Native.Nat.{_+_, _≤_};
 ghost use lib.ListN.{length};
@@ -33,7 +32,7 @@ impl Name {
     }
 
     // The bytes of a name that lies within the text.
-    pub(crate) fn bytes_within(self, text: &[u8]) -> &[u8]
+    fn bytes_within(self, text: &[u8]) -> &[u8]
         requires { ⌜ self .start + self .len ≤ length (now text) ⌝ }
         ensures { λ r. ⌜ now r ≡ bytesAt (now (text .entry)) self ⌝ }
     {

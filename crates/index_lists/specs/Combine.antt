@@ -1,6 +1,6 @@
 -- Index lists that stand on one another.
-use mathlib.Core.Bool.{cond}
-use mathlib.Core.List.{List, [], _∷_, _++_, map}
+use mathlib.Core.List.{List, _++_, map}
+use mathlib.Core.Path.{_≡_}
 use Prim.Native.Nat.{ℕ}
 use lib.Dec.{leb, ltb}
 use lib.ListN.{length, drop, getD}
@@ -55,3 +55,9 @@ abbrev pub counted : {X : Type 0} → Result (Option (List X)) Fault → Result 
 counted (Ok None) = Ok None
 counted (Ok (Some new)) = Ok (Some (length new))
 counted (Err f) = Err f
+
+-- The law of combined lists: where the indices are what an upper list over a lower one was combined to, reading a row by
+-- them is reading it by the lower list and then by the upper.
+abbrev pub CombinedReads : {Cell : Type 0} → Cell → List Cell → List ℕ → Type 0
+CombinedReads missing row indices =
+    (upper : List ℕ) (lower : Option (List ℕ)) (room : ℕ) → combine (Some upper) lower room ≡ Ok (Some indices) → readBy missing row indices ≡ readBy missing (readByAny missing row lower) upper

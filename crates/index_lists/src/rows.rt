@@ -1,13 +1,11 @@
 // Reading a row by a list of indices.
-ghost use mathlib.Core.List.{List, _++_};
+ghost use mathlib.Core.List.{_++_};
 ghost use mathlib.Core.Path.{_≡_};
-ghost use Prim.Native.Nat.{ℕ, _≤_};
+ghost use Prim.Native.Nat.{_≤_};
 ghost use lib.ListN.{drop, getD, length};
-ghost use Rattle.std.specs.declared.option.Option.{Option};
 ghost use Rattle.std.specs.declared.option.Option.the-variants.{Some};
-ghost use Rattle.std.specs.declared.result.Result.the-variants.{Ok};
 ghost use Rattle.common.specs.Firsts.{orFault};
-ghost use Rattle.index_lists.specs.Combine.{combine, outputAfter, readBy, readByAny, roomFault};
+ghost use Rattle.index_lists.specs.Combine.{CombinedReads, outputAfter, readBy, roomFault};
 use common::Fault;
 use common::Refusal;
 
@@ -23,7 +21,7 @@ fn cell_at<T: Copy>(row: &[T], place: usize, missing: T) -> T
 }
 
 // Writes the row's cell at each index over the front of the output.
-pub(crate) fn select_into<T: Copy>(row: &[T], missing: T, indices: &[u32], out: &mut [T])
+fn select_into<T: Copy>(row: &[T], missing: T, indices: &[u32], out: &mut [T])
     requires { ⌜ length (now indices) ≤ length (now out) ⌝ }
     ensures { λ _. ⌜ now (out .exit) ≡ readBy missing (now (row .entry)) (now (indices .entry)) ++ drop (length (now (indices .entry))) (now (out .entry)) ⌝ }
 {
@@ -45,7 +43,7 @@ pub fn select<T: Copy>(
 ) -> Result<usize, Fault>
     ensures value { λ r. ⌜ r ≡ orFault (roomFault (now (indices .entry)) (length (now (out .entry)))) (length (now (indices .entry))) ⌝ }
     ensures after { λ _. ⌜ now (out .exit) ≡ outputAfter (orFault (roomFault (now (indices .entry)) (length (now (out .entry)))) (Some (readBy missing (now (row .entry)) (now (indices .entry))))) (now (out .entry)) ⌝ }
-    ensures law { λ _. ⌜ ((upper : List ℕ) (lower : Option (List ℕ)) (room : ℕ) → combine (Some upper) lower room ≡ Ok (Some (now (indices .entry))) → readBy missing (now (row .entry)) (now (indices .entry)) ≡ readBy missing (readByAny missing (now (row .entry)) lower) upper) ⌝ }
+    ensures law { λ _. ⌜ CombinedReads missing (now (row .entry)) (now (indices .entry)) ⌝ }
 {
     if out.len() < indices.len() {
         return Err(Refusal::ListTooShort.at(0));

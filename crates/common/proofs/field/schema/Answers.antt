@@ -11,14 +11,14 @@ use Rattle.common.proofs.field.schema.Needs as need
 pub returns-in-Break-check-items : need.returns-in-Break-check-items
 returns-in-Break-check-items c =
     let p = err-from-errBy (c .from-residual .result) (c .from-residual .ensures .1) in
-    let here = some-from-err _ _ _ (c .in-Break-check-items .ensures tt) in
+    let here = some-from-err _ _ _ (c .in-Break-check-items .ensures tt .value) in
     let e = take-most 65535 (c .min-count .result) (c .args .fields .now) (c .min-count .ensures) in
     let all = ap (λ l. firstFault (fieldFault (c .args .text .now)) l 0) (sym e) ∙ here in
     ap (λ r. mapped now (λ f. f) r) (p .1) ∙ ap (λ f. Err f) (p .2) ∙ ap (λ o. orFault o (schemaOf (c .args .fields .now))) (sym all)
 
 pub returns : need.returns
 returns c =
-    let none = none-from-ok _ _ _ (c .in-Continue-check-items .ensures tt) in
+    let none = none-from-ok _ _ _ (c .in-Continue-check-items .ensures tt .value) in
     let e = take-most 65535 (c .min-count .result) (c .args .fields .now) (c .min-count .ensures) in
     let all = ap (λ l. firstFault (fieldFault (c .args .text .now)) l 0) (sym e) ∙ none in
     ap (λ l. Ok l) e ∙ ap (λ o. orFault o (schemaOf (c .args .fields .now))) (sym all)
