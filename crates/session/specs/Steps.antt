@@ -1,7 +1,5 @@
 -- What a line of a script does.
 use mathlib.Core.Bool.{cond}
-use mathlib.Core.List.{List}
-use Prim.Native.Nat.{ℕ}
 use lib.ListN.{length}
 use Rattle.std.specs.Options.{mapped}
 use Rattle.std.specs.Results as results
@@ -11,7 +9,7 @@ use Rattle.std.specs.declared.result.Result.the-variants.{Ok, Err}
 use Rattle.common.specs.declared.refusal.Fault.{Fault}
 use Rattle.index_lists.specs.Combine.{counted}
 use Rattle.script.specs.declared.line.Malformed.{Malformed}
-use Rattle.script.specs.Lines.{Said, saysNothing, saysHelp, saysText, saysField, saysSchema, saysFind, saysLower, saysCombine, lineOf}
+use Rattle.script.specs.Lines.{Said, saysNothing, saysHelp, saysText, saysField, saysSchema, saysFind, saysLower, saysCombine}
 use Rattle.session.specs.declared.answer.Answer.{Answer}
 use Rattle.session.specs.declared.answer.Answer.the-variants.{Nothing, Help, Text, Field, Schema, Found, Listed}
 use Rattle.session.specs.Sessions.{View, combineOn, findField, schemaCount, standing, withBeneath, withField, withText}
