@@ -1,5 +1,5 @@
 -- The six types and what they hold.
-use Rattle.std.specs.Prelude.{ℕ, ◌-◌, ◌^◌, Bool, true, false, cond, ◌&&◌, ◌||◌, ℤ, pos, negsuc, Some, None, Option, ◌==◌, int_le}
+use Rattle.std.specs.Prelude.{ℕ, ◌-◌, ◌^◌, Bool, true, false, cond, ◌&&◌, ℤ, pos, negsuc, Some, None, Option, ◌==◌, int_le}
 use Rattle.common.specs.declared.data_type.DataType.{DataType}
 use Rattle.common.specs.declared.data_type.DataType.TheVariants.{Int8, Int16, Int32, Int64, Boolean, Utf8}
 use Rattle.common.specs.declared.data_type.Value.{Value}

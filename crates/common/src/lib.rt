@@ -1,4 +1,6 @@
 // The ground that every other crate stands on: refusals, names in a text, types, values, fields and schemas.
+#![tactic(auto)]
+
 mod check;
 mod data_type;
 mod field;

@@ -1,4 +1,6 @@
 // The limits of names, schemas and index lists, run as examples.
+#![tactic(auto)]
+
 #[cfg(test)]
 mod tests {
     use common::{DataType, Fault, Field, Name, Refusal, Value, first_field, schema};

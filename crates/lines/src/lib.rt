@@ -1,4 +1,6 @@
 // Lines of a script and their answers, run as examples.
+#![tactic(auto)]
+
 #[cfg(test)]
 mod tests {
     use replies::{HELP, reply};

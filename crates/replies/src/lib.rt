@@ -1,4 +1,6 @@
 // What a script's lines are answered in words.
+#![tactic(auto)]
+
 mod show;
 mod words;
 

@@ -1,4 +1,6 @@
 // One line of a script, from its bytes to what it asks for.
+#![tactic(auto)]
+
 mod fields;
 mod keyword;
 mod line;

@@ -1,4 +1,6 @@
 // What the program keeps between the lines of a script, and what each line does to it.
+#![tactic(auto)]
+
 mod answer;
 mod columns;
 mod perform;

@@ -1,4 +1,6 @@
 // Reads a script of calls from standard input and answers each line on standard output.
+#![tactic(auto)]
+
 use replies::{HELP, Plain, reply};
 use session::Session;
 use std::io::{BufRead, BufReader};

@@ -18,6 +18,6 @@ returns g c =
     let enough = room_enough c.args.indices.now (length c.args.out.now) c.if-out-indices.false in
     record {
       value = sym (ap (λ o. or_fault o (length c.args.indices.now)) enough);
-      after = c.select-into.ensures ∙ output_read c.args.missing c.args.row.now c.args.out.now c.args.indices.now ∙ sym (ap (λ o. output_after (or_fault o (Some (read_by c.args.missing c.args.row.now c.args.indices.now))) c.args.out.now) enough);
+      after = c.select_into.ensures ∙ output_read c.args.missing c.args.row.now c.args.out.now c.args.indices.now ∙ sym (ap (λ o. output_after (or_fault o (Some (read_by c.args.missing c.args.row.now c.args.indices.now))) c.args.out.now) enough);
       law = λ upper lower room e. reads_alike c.args.missing c.args.row.now c.args.indices.now upper lower room e;
     }

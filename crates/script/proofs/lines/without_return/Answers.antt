@@ -4,7 +4,7 @@ use Rattle.std.proofs.lemmas.Bool.{eqb-true}
 use Rattle.script.specs.Lines.{without_return}
 use Rattle.script.proofs.lines.without_return.Goals as goal
 
-pub returns-then-is-empty : goal.returns-then-is-empty
-returns-then-is-empty c =
-    let none = nil_from_length c.args.bytes.now (eqb-true _ 0 (sym c.if-is-empty.ensures)) in
+pub returns-then-is_empty : goal.returns-then-is_empty
+returns-then-is_empty c =
+    let none = nil_from_length c.args.bytes.now (eqb-true _ 0 (sym c.if-is_empty.ensures)) in
     subst (λ l. l ≡ without_return l) (sym none) refl

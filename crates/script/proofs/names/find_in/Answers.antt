@@ -7,16 +7,16 @@ use Rattle.script.proofs.names.find_in.Goals as goal
 pub loop-i-init : goal.loop-i-init
 loop-i-init c = refl
 
-pub returns-then-starts-with : goal.returns-then-starts-with
-returns-then-starts-with c =
+pub returns-then-starts_with : goal.returns-then-starts_with
+returns-then-starts_with c =
     let text = c.args.text.now in
-    let here = stands_at text c.args.word.now c.loop-i.i _ c.if-starts-with.ensures.value in
+    let here = stands_at text c.args.word.now c.loop-i.i _ c.if-starts_with.ensures.value in
     found_here (stands_in c.args.word.now) (tails text) c.loop-i.i c.loop-i.invariant _ [] (tail_at text c.loop-i.i [] c.loop-i-test.true) (omega (arith, length-tails text, c.loop-i-test.true)) here
 
 pub loop-i-preserved : goal.loop-i-preserved
 loop-i-preserved c =
     let text = c.args.text.now in
-    let here = stands_at text c.args.word.now c.loop-i.i _ c.if-starts-with.ensures.value in
+    let here = stands_at text c.args.word.now c.loop-i.i _ c.if-starts_with.ensures.value in
     c.loop-i.invariant ∙ place_next (tails text) c.loop-i.i _ [] (tail_at text c.loop-i.i [] c.loop-i-test.true) (omega (arith, length-tails text, c.loop-i-test.true)) (stands_in c.args.word.now) here
 
 pub returns : goal.returns

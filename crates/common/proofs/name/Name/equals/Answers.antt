@@ -5,5 +5,5 @@ use Rattle.common.proofs.name.Name.equals.Goals as goal
 
 pub returns : goal.returns
 returns c =
-    let v : c.equal-bytes.result ≡ same_name c.args.text.now c.args.self c.args.other = search rules in
+    let v : c.equal_bytes.result ≡ same_name c.args.text.now c.args.self c.args.other = search rules in
     record { value = v; law = subst (λ r. Alike c.args.text.now c.args.self c.args.other r) (sym v) (alike c.args.text.now c.args.self c.args.other) }
