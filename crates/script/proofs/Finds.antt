@@ -1,9 +1,7 @@
 -- The steps of a search, and the places of a text.
-use Rattle.std.proofs.Common.{◌≡◌, ℕ, zero, suc, ◌-◌, ◌<◌, ◌≤◌, Bool, true, List, [], ◌∷◌, length, get_or, take, drop, Some, None, Decides, Option, sym, refl, ap, ◌∙◌, subst, arith}
-use Rattle.std.specs.Cmp.Lexicographic.{Matches}
-use Rattle.std.proofs.lemmas.Slice.Eq.{slice_eq-Decides, bytes_eq-Decides}
+use Rattle.std.proofs.Common.{◌≡◌, ℕ, zero, suc, ◌-◌, ◌<◌, ◌≤◌, Bool, true, List, [], ◌∷◌, length, get_or, take, drop, Some, None, Option, nat_eq, sym, refl, ap, ◌∙◌, subst, arith}
+use Rattle.std.specs.List.{starts_with}
 use Rattle.std.proofs.lemmas.List.{at_drop_all, take_rest}
-use Rattle.std.proofs.lemmas.Bool.Decides.{same_from_decides, Decides-eqb}
 use Rattle.common.specs.Firsts.{First, first_place}
 use Rattle.common.proofs.Searches.{place_here, first_law}
 use Rattle.script.specs.Names.{Found, stands_in, tails}
@@ -32,7 +30,5 @@ tail_at (b ∷ bs) zero d h = refl
 tail_at (b ∷ bs) (suc i) d h = tail_at bs i d (omega arith)
 
 -- What `starts_with` answers of what is left from i on.
-pub stands_at : (text word : List ℕ) (i : ℕ) (r : Bool) → Matches (λ (a b : ℕ) (t : Bool). Decides t (a ≡ b)) word (take (length word) (take (length text - i) (drop i text))) r → stands_in word (drop i text) ≡ r
-stands_at text word i r m =
-    let part = take (length word) (take (length text - i) (drop i text)) in
-    sym (same_from_decides r _ (slice_eq-Decides Decides-eqb word part r m) (bytes_eq-Decides word part) ∙ ap (stands_in word) (take_rest text i))
+pub stands_at : (text word : List ℕ) (i : ℕ) (r : Bool) → r ≡ starts_with nat_eq (take (length text - i) (drop i text)) word → stands_in word (drop i text) ≡ r
+stands_at text word i r m = sym (m ∙ ap (stands_in word) (take_rest text i))

@@ -11,13 +11,13 @@ returns-in_err-within c =
     let p = err_from_is_err_and c.from_residual.result c.from_residual.ensures.1 in
     p.1 ∙ ap (λ e. Err e) p.2 ∙ refuses (view c.args.self.now) c.args.name c.in_err-within.field-0.0 c.in_err-within.ensures
 
-pub returns-in_Some : goal.returns-in_Some
-returns-in_Some c =
-    finds (view c.args.self.now) c.args.name c.in_ok-within.within.now (Some c.in_Some.place) c.in_ok-within.ensures
-    (c.in_Some.ensures.value ∙ ap (λ t. first_place (has_name t c.args.name) c.in_ok-within.within.now 0) c.text.ensures)
+pub returns-in-Some : goal.returns-in-Some
+returns-in-Some c =
+    finds (view c.args.self.now) c.args.name c.in_ok-within.within.now (Some c.in-Some.place) c.in_ok-within.ensures
+    (c.in-Some.ensures.value ∙ ap (λ t. first_place (has_name t c.args.name) c.in_ok-within.within.now 0) c.text.ensures)
 
-pub returns-in_None : goal.returns-in_None
-returns-in_None c =
+pub returns-in-None : goal.returns-in-None
+returns-in-None c =
     ap (λ e. Err e) c.at.ensures
     ∙ finds (view c.args.self.now) c.args.name c.in_ok-within.within.now None c.in_ok-within.ensures
-    (c.in_None.ensures.value ∙ ap (λ t. first_place (has_name t c.args.name) c.in_ok-within.within.now 0) c.text.ensures)
+    (c.in-None.ensures.value ∙ ap (λ t. first_place (has_name t c.args.name) c.in_ok-within.within.now 0) c.text.ensures)
