@@ -1,4 +1,4 @@
-use Rattle.std.proofs.Common.{◌≡◌, length, drop, None, sym, ap, ◌∙◌, take_at}
+use Rattle.std.proofs.Common.{length, drop, None, ◌∙◌, take_at}
 use Rattle.session.proofs.Outputs.{exact_output}
 use Rattle.session.proofs.columns.select_from.Goals as goal
 

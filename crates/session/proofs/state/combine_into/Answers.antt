@@ -1,4 +1,4 @@
-use Rattle.std.proofs.Common.{◌≡◌, length, drop, ◌∙◌, take_at}
+use Rattle.std.proofs.Common.{length, drop, ◌∙◌, take_at}
 use Rattle.session.proofs.state.combine_into.Goals as goal
 
 pub returns : goal.returns

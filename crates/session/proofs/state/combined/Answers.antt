@@ -1,4 +1,4 @@
-use Rattle.std.proofs.Common.{◌≡◌, Ok, vec_items, vec_len, sym, ap, ◌∙◌}
+use Rattle.std.proofs.Common.{Ok, vec_items, vec_len, sym, ap, ◌∙◌}
 use Rattle.std.specs.Option.{option_map}
 use Rattle.index_lists.specs.Combine.{combine}
 use Rattle.session.proofs.Outputs.{kept}

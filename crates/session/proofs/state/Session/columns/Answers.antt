@@ -1,4 +1,4 @@
-use Rattle.std.proofs.Common.{◌≡◌, None, Ok, vec_items}
+use Rattle.std.proofs.Common.{None, Ok, vec_items}
 use Rattle.std.specs.Option.{option_map}
 use Rattle.std.specs.Result as results
 use Rattle.index_lists.specs.Combine.{read_by_any}

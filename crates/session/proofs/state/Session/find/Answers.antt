@@ -1,4 +1,4 @@
-use Rattle.std.proofs.Common.{Some, None, Err, sym, ap, ◌∙◌}
+use Rattle.std.proofs.Common.{Some, None, Err, ap, ◌∙◌}
 use Rattle.std.proofs.lemmas.Result.{err_from_is_err_and}
 use Rattle.common.specs.Firsts.{first_place}
 use Rattle.common.specs.Schemas.{has_name}
