@@ -85,7 +85,7 @@ mod tests {
         let Some(bytes) = Name { start: 4, len: 3 }.bytes(text) else {
             return Err(Fail::new("no name"));
         };
-        assert!(rt; bytes == b"tax");
+        assert!(rt; bytes == b"tax".as_slice());
         assert!(rt; Name { start: 5, len: 3 }.bytes(text).is_none());
         Ok(())
     }
