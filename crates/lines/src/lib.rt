@@ -6,7 +6,6 @@ mod tests {
     use replies::{HELP, reply};
     use session::Session;
     use std::alloc::Global;
-    use std::process::Abort;
     use std::test::Fail;
 
     // The last answer of a script.
@@ -21,19 +20,20 @@ mod tests {
         Ok(answer)
     }
 
-    fn answers(rt: &impl Abort, heap: Global, script: &str, expected: &str) -> Result<(), Fail> {
+    // Whether that is the last answer of a script.
+    fn answers(heap: Global, script: &str, expected: &str) -> Result<bool, Fail> {
         let answer = last_answer(heap, script)?;
-        assert!(rt; answer.as_str() == expected);
-        Ok(())
+        Ok(answer.as_str() == expected)
     }
 
     #[test]
     fn help_and_remarks(rt: HostRuntime) -> Result<(), Fail> {
         let heap = rt.alloc();
-        answers(&rt, heap, "help", HELP)?;
-        answers(&rt, heap, "", "")?;
-        answers(&rt, heap, " \t\r", "")?;
-        answers(&rt, heap, "# combine 1", "")
+        assert!(rt; answers(heap, "help", HELP)?);
+        assert!(rt; answers(heap, "", "")?);
+        assert!(rt; answers(heap, " \t\r", "")?);
+        assert!(rt; answers(heap, "# combine 1", "")?);
+        Ok(())
     }
 
     #[test]
@@ -52,14 +52,16 @@ mod tests {
     #[test]
     fn three_lists_stand_on_one_another(rt: HostRuntime) -> Result<(), Fail> {
         let heap = rt.alloc();
-        answers(
-            &rt,
-            heap,
-            "lower 1 3 5\ncombine 2 0",
-            "[5, 1]: (past the schema), (past the schema)",
-        )?;
+        assert!(rt;
+            answers(
+                heap,
+                "lower 1 3 5\ncombine 2 0",
+                "[5, 1]: (past the schema), (past the schema)"
+            )?
+        );
         let fields = "text ab\nfield a 1\nfield b 2\nlower 1 0 9\ncombine 2 0\ncombine 1 1 0";
-        answers(&rt, heap, fields, "[1, 1, 9]: b, b, (past the schema)")
+        assert!(rt; answers(heap, fields, "[1, 1, 9]: b, b, (past the schema)")?);
+        Ok(())
     }
 
     #[test]
@@ -72,15 +74,17 @@ mod tests {
     #[test]
     fn an_output_is_full_or_too_short(rt: HostRuntime) -> Result<(), Fail> {
         let heap = rt.alloc();
-        answers(
-            &rt,
-            heap,
-            "lower absent\ncombine 0 0 into 2",
-            "[0, 0]: (past the schema), (past the schema)",
-        )?;
+        assert!(rt;
+            answers(
+                heap,
+                "lower absent\ncombine 0 0 into 2",
+                "[0, 0]: (past the schema), (past the schema)"
+            )?
+        );
         let short = last_answer(heap, "lower absent\ncombine 0 0 into 1")?;
         assert!(rt; short.as_str().starts_with("refused (19) at 0: "));
-        answers(&rt, heap, "lower 3\ncombine into 0", "[]: ")
+        assert!(rt; answers(heap, "lower 3\ncombine into 0", "[]: ")?);
+        Ok(())
     }
 
     #[test]
@@ -90,6 +94,7 @@ mod tests {
         assert!(rt; both.as_str().starts_with("refused (1) at 0: "));
         let kind = last_answer(heap, "text net\nfield net 0\nfield @9:9 9\nschema")?;
         assert!(rt; kind.as_str().starts_with("refused (2) at 0: "));
-        answers(&rt, heap, "text net\nschema", "a schema of 0 fields: ")
+        assert!(rt; answers(heap, "text net\nschema", "a schema of 0 fields: ")?);
+        Ok(())
     }
 }
