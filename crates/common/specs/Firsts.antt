@@ -1,5 +1,7 @@
--- The first fault of a list, and the first item that passes a test.
+-- The first fault of a list, and what it says that an item is the first that passes a test. A check `and then` another is
+-- `option_or`: the fault of the first that finds one.
 use Rattle.std.specs.Prelude.{◌≡◌, ℕ, ◌+◌, ◌<◌, Bool, true, false, cond, List, [], ◌∷◌, length, Some, None, Ok, Err, Option, Result, slice_index_or}
+use Rattle.std.specs.Option.{option_or}
 use Rattle.common.specs.declared.refusal.Fault.{Fault}
 use Rattle.common.specs.declared.refusal.Refusal.{Refusal}
 
@@ -12,30 +14,20 @@ abbrev pub or_fault : {X : Type 0} → Option Fault → X → Result X Fault
 or_fault None x = Ok x
 or_fault (Some f) x = Err f
 
--- A check, and the next one only where it finds no fault.
-abbrev pub and_then : Option Fault → Option Fault → Option Fault
-and_then None next = next
-and_then (Some f) next = Some f
-
 -- A refusal at a position unless a condition holds.
 abbrev pub unless : Bool → Refusal → ℕ → Option Fault
 unless b r p = cond b None (Some (fault r p))
 
--- The fault of the first item that has one, the items being counted from a place.
+-- The fault of the first item that has one, the items being counted from a place: an item's own, or else that of the rest.
 abbrev pub first_fault : {X : Type 0} → (X → ℕ → Option Fault) → List X → ℕ → Option Fault
 first_fault faults [] p = None
-first_fault faults (x ∷ xs) p = and_then (faults x p) (first_fault faults xs (p + 1))
+first_fault faults (x ∷ xs) p = option_or (faults x p) (first_fault faults xs (p + 1))
 
 -- The law of the first fault: an item has it and none before that item has one; with no fault, no item has one.
 abbrev pub Earliest : {X : Type 0} → (X → ℕ → Option Fault) → List X → Option Fault → Type 0
 Earliest {X} faults xs None = (k : ℕ) (d : X) → k < length xs → faults (slice_index_or xs k d) k ≡ None
 Earliest {X} faults xs (Some f) =
     (k : ℕ) × (k < length xs) × ((d : X) → faults (slice_index_or xs k d) k ≡ Some f) × ((j : ℕ) (d : X) → j < k → faults (slice_index_or xs j d) j ≡ None)
-
--- The place of the first item that passes a test, the items being counted from a place.
-abbrev pub first_place : {X : Type 0} → (X → Bool) → List X → ℕ → Option ℕ
-first_place test [] p = None
-first_place test (x ∷ xs) p = cond (test x) (Some p) (first_place test xs (p + 1))
 
 -- The law of a search: the item at the place passes and none before it does; with no place, no item passes.
 abbrev pub First : {X : Type 0} → (X → Bool) → List X → Option ℕ → Type 0

@@ -3,3 +3,4 @@ pub mod Names
 pub mod Types
 pub mod Firsts
 pub mod Schemas
+pub mod Troubles

@@ -2,6 +2,7 @@
 use Rattle.std.specs.Prelude.{ℕ, ◌-◌, ◌^◌, Bool, true, false, cond, ◌&&◌, ℤ, pos, negsuc, Some, None, Option, ◌==◌, int_le}
 use Rattle.common.specs.declared.data_type.DataType.{DataType}
 use Rattle.common.specs.declared.data_type.DataType.TheVariants.{Int8, Int16, Int32, Int64, Boolean, Utf8}
+use Rattle.common.specs.declared.data_type.UnknownType.{UnknownType}
 use Rattle.common.specs.declared.data_type.Value.{Value}
 use Rattle.common.specs.declared.data_type.Value.TheVariants.{Null, Whole, Text}
 
@@ -23,6 +24,10 @@ type_of n =
     (cond (n == 4) (Some Int64)
     (cond (n == 5) (Some Boolean)
     (cond (n == 6) (Some Utf8) None)))))
+
+-- What stands in a type's place for a number of none.
+abbrev pub unknown_type : ℕ → UnknownType
+unknown_type n = record { 0 = n }
 
 -- A number of so many bits, with a sign: from -2^(bits-1) to 2^(bits-1)-1.
 abbrev pub signed_bits : ℕ → ℤ → Bool

@@ -22,8 +22,8 @@ pub fn check_items<C: ItemCheck>(check: &C, items: &[C::Item]) -> Result<(), Fau
     ensures value { result ≡ or_fault (first_fault (C.ItemCheck.faults check.now) items.now 0) tt }
     ensures law { Earliest (C.ItemCheck.faults check.now) items.now (result_err result) }
 {
-    for i in 0..items.len() {
-        check.check(&items[i], i)?;
+    for (place, item) in items.iter().enumerate() {
+        check.check(item, place)?;
     }
     Ok(())
 }

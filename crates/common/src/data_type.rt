@@ -1,10 +1,11 @@
 // The six types, and the values that they hold.
 ghost use Rattle.std.specs.Prelude.{◌≡◌};
 ghost use Rattle.std.specs.Option.{ok_or};
-ghost use Rattle.common.specs.Types.{type_number, type_of, holds, fits};
+ghost use Rattle.common.specs.Types.{type_number, type_of, unknown_type, holds, fits};
 
 use crate::refusal::Fault;
 use std::fmt;
+use thiserror::Error;
 
 // A type, by the number that callers give.
 #[derive(Clone, Copy, PartialEq, Eq, Debug)]
@@ -25,34 +26,45 @@ pub enum Value {
     Text(u32),
 }
 
-impl DataType {
-    // The type's number, 1 to 6.
-    pub fn number(self) -> u8
-        ensures { result ≡ type_number self }
-    {
-        self as u8
-    }
+// A number that is no type's.
+#[derive(Clone, Copy, PartialEq, Eq, Debug, Error)]
+#[error("{0} is no type's number; give one of 1 to 6")]
+pub struct UnknownType(pub u8);
 
-    // The type of a number, where it is 1 to 6.
-    pub fn from_number(number: u8) -> Option<DataType>
-        ensures { result ≡ type_of number }
-    {
+// The type's number, 1 to 6.
+impl From<DataType> for u8 {
+    ghost from_gives = { λ t n. n ≡ type_number t };
+
+    fn from(data_type: DataType) -> u8 {
+        data_type as u8
+    }
+}
+
+// The type of a number, where it is 1 to 6.
+impl TryFrom<u8> for DataType {
+    type Error = UnknownType;
+
+    ghost try_from_gives = { λ n r. r ≡ ok_or (type_of n) (unknown_type n) };
+
+    fn try_from(number: u8) -> Result<DataType, UnknownType> {
         match number {
-            1 => Some(DataType::Int8),
-            2 => Some(DataType::Int16),
-            3 => Some(DataType::Int32),
-            4 => Some(DataType::Int64),
-            5 => Some(DataType::Boolean),
-            6 => Some(DataType::Utf8),
-            _ => None,
+            1 => Ok(DataType::Int8),
+            2 => Ok(DataType::Int16),
+            3 => Ok(DataType::Int32),
+            4 => Ok(DataType::Int64),
+            5 => Ok(DataType::Boolean),
+            6 => Ok(DataType::Utf8),
+            _ => Err(UnknownType(number)),
         }
     }
+}
 
+impl DataType {
     // The type of a number, or the fault that is to be given where it is none.
     pub fn known(number: u8, fault: Fault) -> Result<DataType, Fault>
         ensures { result ≡ ok_or (type_of number) fault }
     {
-        DataType::from_number(number).ok_or(fault)
+        DataType::try_from(number).or(Err(fault))
     }
 
     // Whether a whole number lies in the type's range.
@@ -60,11 +72,11 @@ impl DataType {
         ensures { result ≡ holds self n }
     {
         match self {
-            DataType::Int8 => -128 <= n && n <= 127,
-            DataType::Int16 => -32_768 <= n && n <= 32_767,
-            DataType::Int32 => -2_147_483_648 <= n && n <= 2_147_483_647,
+            DataType::Int8 => (-128..=127).contains(&n),
+            DataType::Int16 => (-32_768..=32_767).contains(&n),
+            DataType::Int32 => (-2_147_483_648..=2_147_483_647).contains(&n),
             DataType::Int64 => true,
-            DataType::Boolean => n == 0 || n == 1,
+            DataType::Boolean => (0..=1).contains(&n),
             DataType::Utf8 => false,
         }
     }
@@ -85,7 +97,7 @@ impl Value {
 
 impl fmt::Display for DataType {
     fn fmt<W: fmt::Write>(&self, f: &mut fmt::Formatter<W>) -> fmt::Result {
-        f.write_str(match *self {
+        f.write_str(match self {
             DataType::Int8 => "Int8",
             DataType::Int16 => "Int16",
             DataType::Int32 => "Int32",

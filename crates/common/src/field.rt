@@ -1,7 +1,7 @@
 // Fields and schemas, as callers give them.
-ghost use Rattle.std.specs.Prelude.{◌≡◌};
+ghost use Rattle.std.specs.Prelude.{◌≡◌, position};
 ghost use Rattle.std.specs.Result.{result_map_both};
-ghost use Rattle.common.specs.Firsts.{First, first_place, or_fault};
+ghost use Rattle.common.specs.Firsts.{First, or_fault};
 ghost use Rattle.common.specs.Schemas.{field_fault, has_name, schema_fault, schema_of};
 
 use crate::check::{ItemCheck, check_items};
@@ -47,21 +47,17 @@ impl ItemCheck for FieldCheck<'_> {
 pub fn schema<'a>(text: &[u8], fields: &'a [Field]) -> Result<&'a [Field], Fault>
     ensures { result_map_both (λ x. x.now) (λ e. e) result ≡ or_fault (schema_fault text.now fields.now) (schema_of fields.now) }
 {
-    let count = fields.len().min(SCHEMA_LIMIT);
-    let within = &fields[0..count];
+    let within = &fields[..SCHEMA_LIMIT.min(fields.len())];
     check_items(&FieldCheck { text }, within)?;
     Ok(within)
 }
 
 // The place of the first field that has the name.
 pub fn first_field(text: &[u8], fields: &[Field], name: Name) -> Option<usize>
-    ensures value { result ≡ first_place (has_name text.now name) fields.now 0 }
+    ensures value { result ≡ position (has_name text.now name) fields.now }
     ensures law { First (has_name text.now name) fields.now result }
 {
-    for i in 0..fields.len() {
-        if fields[i].name.equals(name, text) {
-            return Some(i);
-        }
-    }
-    None
+    fields
+        .iter()
+        .position(|field| field.name.equals(name, text))
 }

@@ -48,16 +48,6 @@ impl Name {
         }
         Some(self.bytes_within(text))
     }
-}
-
-// Whether two runs of bytes are the same.
-pub fn equal_bytes(a: &[u8], b: &[u8]) -> bool
-    ensures { result ≡ bytes_eq a.now b.now }
-{
-    a == b
-}
-
-impl Name {
     // Whether two names of the text are equal. What is no name is equal to itself alone.
     pub fn equals(self, other: Name, text: &[u8]) -> bool
         ensures value { result ≡ same_name text.now self other }
@@ -66,12 +56,9 @@ impl Name {
         if self.start == other.start && self.len == other.len {
             return true;
         }
-        if !self.is_in(text) {
-            return false;
+        match (self.bytes(text), other.bytes(text)) {
+            (Some(own), Some(others)) => own == others,
+            _ => false,
         }
-        if !other.is_in(text) {
-            return false;
-        }
-        equal_bytes(self.bytes_within(text), other.bytes_within(text))
     }
 }
