@@ -1,27 +1,26 @@
 -- Reading a row by a combined list.
-use Rattle.std.proofs.Common.{◌≡◌, ℕ, ◌+◌, ◌<◌, ◌≤◌, Bool, true, false, ltb, List, [], ◌∷◌, ◌++◌, length, get_or, drop, Some, None, Ok, Option, sym, refl, ap, ◌∙◌, arith}
-use lib.ListN.{length-map}
+use Rattle.std.proofs.Common.{◌≡◌, ℕ, ◌+◌, ◌<◌, Bool, true, false, ltb, List, [], ◌∷◌, length, get_or, Some, None, Ok, Option, sym, refl, ap, ◌∙◌}
 use Rattle.std.proofs.lemmas.List.{get_or-map}
-use Rattle.std.proofs.lemmas.Bool.{ltb-true, le-leb, lt-leb}
+use Rattle.std.proofs.lemmas.Bool.{ltb-true}
 use Rattle.common.specs.declared.refusal.Fault.{Fault}
 use Rattle.common.specs.declared.refusal.Refusal.{Refusal}
-use Rattle.common.specs.declared.refusal.Refusal.TheVariants.{ListTooShort}
-use Rattle.common.specs.Firsts.{and_then, fault, first_fault, or_fault, unless}
-use Rattle.common.proofs.Searches.{none_from_ok, ok_is}
-use Rattle.index_lists.specs.Combine.{combine, combined, combine_fault, counted, index_fault, output_after, read_by, read_by_any, room_fault}
+use Rattle.std.specs.Option.{option_or}
+use Rattle.common.specs.Firsts.{first_fault, or_fault, unless}
+use Rattle.common.proofs.Faults.{none_from_ok, ok_is}
+use Rattle.index_lists.specs.Combine.{combine, combined, combine_fault, index_fault, read_by, read_by_any, room_fault}
 
 -- Two checks that find nothing each find nothing.
-pub first_none : (a b : Option Fault) → and_then a b ≡ None → a ≡ None
+pub first_none : (a b : Option Fault) → option_or a b ≡ None → a ≡ None
 first_none None b e = refl
 first_none (Some f) b e = e
 
-pub next_none : (a b : Option Fault) → and_then a b ≡ None → b ≡ None
+pub next_none : (a b : Option Fault) → option_or a b ≡ None → b ≡ None
 next_none None b e = e
-next_none (Some f) b e = absurd (let z : ◌≡◌ {A = ℕ} 0 1 = cc in omega arith)
+next_none (Some f) b e = cc
 
 pub unless_none : (b : Bool) (r : Refusal) (p : ℕ) → unless b r p ≡ None → b ≡ true
 unless_none true r p e = refl
-unless_none false r p e = absurd (let z : ◌≡◌ {A = ℕ} 0 1 = cc in omega arith)
+unless_none false r p e = cc
 
 module _ {Cell : Type 0} (missing : Cell) (row : List Cell) (lower : List ℕ) where
   -- An index of the lower list reads what the lower list's row has there.
@@ -50,23 +49,3 @@ reads_alike missing row indices upper None room e = ap (λ l. read_by missing ro
 reads_alike missing row indices upper (Some lower) room e =
     ap (λ l. read_by missing row l) (granted_is (combine_fault upper (Some lower) room) (combined upper (Some lower)) indices e)
     ∙ reads_over missing row lower upper room (none_from_ok (combine_fault upper (Some lower) room) (Some (combined upper (Some lower))) (Some indices) (sym e))
-
--- ---- the room of the output list
-
-pub room_enough : (indices : List ℕ) (room : ℕ) → length indices ≤ room → room_fault indices room ≡ None
-room_enough indices room h = ap (λ b. unless b ListTooShort 0) (le-leb (length indices) room h)
-
-pub room_short : (indices : List ℕ) (room : ℕ) → room < length indices → room_fault indices room ≡ Some (fault ListTooShort 0)
-room_short indices room h = ap (λ b. unless b ListTooShort 0) (lt-leb (length indices) room h)
-
--- What was written over the front, as the output list after the answer.
-pub output_read : {Cell : Type 0} (missing : Cell) (row old : List Cell) (indices : List ℕ) → read_by missing row indices ++ drop (length indices) old ≡ output_after (Ok (Some (read_by missing row indices))) old
-output_read missing row old indices = ap (λ n. read_by missing row indices ++ drop n old) (sym (length-map indices (λ i. get_or row i missing)))
-
--- What a granted look-up answers is what combining answers.
-pub granted : (upper lower : List ℕ) (room n : ℕ) → Ok n ≡ or_fault (combine_fault upper (Some lower) room) (length upper) → Ok (Some n) ≡ counted (combine (Some upper) (Some lower) room)
-granted upper lower room n e =
-    let none = none_from_ok (combine_fault upper (Some lower) room) (length upper) n e in
-    let count : n ≡ length upper = ok_is (combine_fault upper (Some lower) room) (length upper) n e in
-    let long = length-map upper (λ i. get_or lower i 0) in
-    ap (λ k. Ok (Some k)) (count ∙ sym long) ∙ sym (ap (λ o. counted (or_fault o (Some (read_by 0 lower upper)))) none)

@@ -1,2 +1,1 @@
 pub mod Combines
-pub mod Fronts

@@ -2,7 +2,8 @@
 use Rattle.std.specs.Prelude.{◌≡◌, ℕ, List, ◌++◌, map, length, drop, Some, None, Ok, Err, Option, Result, nat_le, nat_lt, slice_index_or}
 use Rattle.common.specs.declared.refusal.Fault.{Fault}
 use Rattle.common.specs.declared.refusal.Refusal.TheVariants.{IndexPastList, ListTooShort}
-use Rattle.common.specs.Firsts.{and_then, first_fault, or_fault, unless}
+use Rattle.std.specs.Option.{option_or}
+use Rattle.common.specs.Firsts.{first_fault, or_fault, unless}
 
 -- What a row gives by a list of indices: its cell at each index, and the missing cell where the row ends before it.
 abbrev pub read_by : {Cell : Type 0} → Cell → List Cell → List ℕ → List Cell
@@ -24,7 +25,7 @@ room_fault indices room = unless (nat_le (length indices) room) ListTooShort 0
 -- The first check that fails: an index past the end of the list beneath, then an output list with too little room.
 abbrev pub combine_fault : List ℕ → Option (List ℕ) → ℕ → Option Fault
 combine_fault upper None room = room_fault upper room
-combine_fault upper (Some lower) room = and_then (first_fault (index_fault lower) upper 0) (room_fault upper room)
+combine_fault upper (Some lower) room = option_or (first_fault (index_fault lower) upper 0) (room_fault upper room)
 
 -- The indices of the upper list, looked up in the lower one; as they are where that is absent.
 abbrev pub combined : List ℕ → Option (List ℕ) → List ℕ

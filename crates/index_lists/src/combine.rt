@@ -31,13 +31,12 @@ fn copy(indices: &[u32], out: &mut [u32]) -> Result<usize, Fault>
     ensures value { result ≡ or_fault (room_fault indices.now (length out.old)) (length indices.now) }
     ensures after { out.new ≡ output_after (or_fault (room_fault indices.now (length out.old)) (Some indices.now)) out.old }
 {
-    let n = indices.len();
-    if out.len() < n {
+    let count = indices.len();
+    if out.len() < count {
         return Err(Refusal::ListTooShort.at(0));
     }
-    let front = &mut out[0..n];
-    front.copy_from_slice(indices);
-    Ok(n)
+    out[..count].copy_from_slice(indices);
+    Ok(count)
 }
 
 // The lower list's entries at the upper list's indices, over the front of the output.

@@ -9,11 +9,7 @@ use common::{Fault, Refusal};
 fn cell_at<T: Copy>(row: &[T], place: usize, missing: T) -> T
     ensures { result ≡ slice_index_or row.now place missing }
 {
-    if place < row.len() {
-        row[place]
-    } else {
-        missing
-    }
+    row.get(place).copied().unwrap_or(missing)
 }
 
 // Writes the row's cell at each index over the front of the output.
@@ -21,8 +17,8 @@ fn select_into<T: Copy>(row: &[T], missing: T, indices: &[u32], out: &mut [T])
     requires { length indices.now ≤ length out.old }
     ensures { out.new ≡ read_by missing row.now indices.now ++ drop (length indices.now) out.old }
 {
-    for i in 0..indices.len() {
-        out[i] = cell_at(row, indices[i] as usize, missing);
+    for (place, index) in indices.iter().enumerate() {
+        out[place] = cell_at(row, *index as usize, missing);
     }
 }
 
@@ -31,6 +27,7 @@ fn select_into<T: Copy>(row: &[T], missing: T, indices: &[u32], out: &mut [T])
 //
 // The law: where the indices are the combination of an upper list and one beneath it, the cells are those that the upper
 // list gives on the row that the lower list gives.
+#[tactic(auto, using(crate::proofs::Combines::reads_alike))]
 pub fn select<T: Copy>(
     row: &[T],
     missing: T,

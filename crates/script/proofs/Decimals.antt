@@ -1,23 +1,19 @@
 -- Digits are read one after the other.
-use Rattle.std.proofs.Common.{◌≡◌, ℕ, ◌+◌, ◌-◌, ◌*◌, ◌^◌, ◌<◌, ◌≤◌, Bool, true, false, cond, ◌&&◌, ltb, List, ◌∷◌, map, length, get_or, drop, Ok, Err, Result, sym, refl, ap, ◌∙◌, ⊎_elim, arith}
+use Rattle.std.proofs.Common.{◌≡◌, ℕ, ◌+◌, ◌-◌, ◌*◌, ◌^◌, ◌<◌, Bool, true, false, cond, ◌&&◌, ltb, List, ◌∷◌, map, length, get_or, drop, Ok, Err, Result, sym, refl, ap, ◌∙◌, ⊎_elim, arith}
 use Rattle.std.specs.Char.{is_ascii_digit}
 use Rattle.std.specs.Int.Digits.{number_from_digits_after}
 use Rattle.std.specs.Str.{all_ascii_digits}
 use Rattle.std.proofs.lemmas.Int.Digits.{number_after_ge}
-use Rattle.std.proofs.lemmas.List.{at_drop_all, at_drop_more}
-use Rattle.std.proofs.lemmas.Bool.{and_cases, and_left, and_parts, and_right, cond-false, lt-ltb, le-ltb, ltb-true, ltb-false}
+use Rattle.std.proofs.lemmas.List.{at_drop_more}
+use Rattle.std.proofs.lemmas.Bool.{and_cases, and_left, and_right, cond-false, lt-ltb, le-ltb, ltb-false}
 use Rattle.script.specs.declared.line.Malformed.{Malformed}
 use Rattle.script.specs.declared.line.Malformed.TheVariants.{NotANumber}
 use Rattle.script.specs.Numbers.{more_digit, number_below}
 
 -- ---- a test that chooses between a value and a refusal
 
-pub test_from_ok : {X E : Type 0} (t : Bool) (x y : X) (e : E) → Ok y ≡ cond t (Ok x) (Err e) → (t ≡ true) × (y ≡ x)
-test_from_ok true x y e q = (refl, cc)
-test_from_ok false x y e q = absurd (let z : ◌≡◌ {A = ℕ} 0 1 = cc in omega arith)
-
 pub test_from_err : {X E : Type 0} (t : Bool) (x : X) (d e : E) → Err d ≡ cond t (Ok x) (Err e) → (t ≡ false) × (d ≡ e)
-test_from_err true x d e q = absurd (let z : ◌≡◌ {A = ℕ} 0 1 = cc in omega arith)
+test_from_err true x d e q = cc
 test_from_err false x d e q = (refl, cc)
 
 -- ---- the digits after a number
@@ -44,13 +40,6 @@ module _ (w : List ℕ) (i n : ℕ) (h : i < length w) where
   head : read_after n (drop i w) ≡ read_after n (c ∷ cs)
   head = at_drop_more (λ l. read_after n l) w i 0 h
 
-  pub read_more : (m : ℕ) → Ok m ≡ more_digit n c → (read_after n (drop i w) ≡ read_after m cs) × (m < 2 ^ 32)
-  read_more m e =
-      let p = test_from_ok _ next m NotANumber e in
-      let both = and_parts (is_ascii_digit c) (ltb next (2 ^ 32)) p.0 in
-      let step = ap (λ t. cond ((t && all_ascii_digits cs) && ltb (after next cs) (2 ^ 32)) (Ok (after next cs)) (Err NotANumber)) both.0 in
-      (head ∙ step ∙ ap (λ k. read_after k cs) (sym p.1), omega (arith, p.1, ltb-true next (2 ^ 32) both.1))
-
   large : ltb next (2 ^ 32) ≡ false → ltb (after next cs) (2 ^ 32) ≡ false
   large e = le-ltb (after next cs) (2 ^ 32) (omega (arith, ltb-false next (2 ^ 32) e, number_after_ge 10 next (map (λ d. d - 48) cs) (omega arith)))
 
@@ -63,9 +52,6 @@ module _ (w : List ℕ) (i n : ℕ) (h : i < length w) where
       (λ l. and_right all (ltb (after next cs) (2 ^ 32)) (large l))
       (and_cases (is_ascii_digit c) (ltb next (2 ^ 32)) p.0) in
       head ∙ cond-false _ (Ok (after next cs)) (Err NotANumber) none ∙ ap (λ x. Err x) (sym p.1)
-
-pub read_all : (w : List ℕ) (i n : ℕ) → length w ≤ i → n < 2 ^ 32 → read_after n (drop i w) ≡ Ok n
-read_all w i n h small = at_drop_all (λ l. read_after n l) w i h ∙ ap (λ t. cond t (Ok n) (Err NotANumber)) (lt-ltb n (2 ^ 32) small)
 
 -- ---- a word
 

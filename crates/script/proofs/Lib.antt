@@ -1,6 +1,7 @@
 pub mod Runs
 pub mod Decimals
-pub mod Finds
 pub mod Steps
 pub mod Gathers
+pub mod Patterns
+pub mod Places
 pub mod Examples

@@ -1,5 +1,5 @@
 -- A field, word by word.
-use Rattle.std.specs.Prelude.{ℕ, Bool, false, cond, List, [], ◌∷◌, drop, Ok, Err, codes, Result}
+use Rattle.std.specs.Prelude.{ℕ, Bool, cond, List, [], ◌∷◌, drop, Ok, Err, codes, Result}
 use Rattle.std.specs.Str.{bytes_eq}
 use Rattle.common.specs.declared.field.Field.{Field}
 use Rattle.common.specs.declared.name.Name.{Name}
@@ -8,12 +8,11 @@ use Rattle.script.specs.declared.line.Malformed.TheVariants.{MissingWord, ExtraW
 use Rattle.script.specs.Names.{name_of}
 use Rattle.script.specs.Numbers.{last_number}
 use Rattle.script.specs.Types.{type_number_of}
-use Rattle.script.specs.Words.{and_then}
+use Rattle.script.specs.Words.{and_then, comes_next}
 
 -- Whether the word `null` comes next.
 abbrev pub null_of : List (List ℕ) → Bool
-null_of [] = false
-null_of (w ∷ ws) = bytes_eq w (codes "null")
+null_of ws = comes_next (codes "null") ws
 
 -- The words after it.
 abbrev pub after_null : List (List ℕ) → List (List ℕ)

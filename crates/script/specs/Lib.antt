@@ -3,7 +3,6 @@ pub mod Types
 pub mod Numbers
 pub mod Names
 pub mod Fields
-pub mod Outcomes
 pub mod Lists
 pub mod Keywords
 pub mod Lines

@@ -8,8 +8,8 @@ use Rattle.script.specs.declared.keyword.Keyword.TheVariants as keyword
 use Rattle.script.specs.declared.line.Line.{Line}
 use Rattle.script.specs.declared.line.Line.TheVariants as parsed
 use Rattle.script.specs.declared.line.Malformed.{Malformed}
-use Rattle.script.specs.declared.line.ParseError.{ParseError}
-use Rattle.script.specs.Outcomes.{Agrees}
+use Rattle.common.specs.declared.trouble.Trouble.{Trouble}
+use Rattle.common.specs.Troubles.{Agrees}
 use Rattle.script.specs.Fields.{field_of}
 use Rattle.script.specs.Keywords.{keyword_of}
 use Rattle.script.specs.Lists.{after_list, list_of, list_words, room_of}
@@ -78,5 +78,5 @@ abbrev pub line_of : List ℕ → List ℕ → Result Said Malformed
 line_of text line = words_say text (after_word line) (words_of line)
 
 -- What reading a line answers: what the line says, or why it is none; where memory runs out, nothing.
-abbrev pub Parsed : List ℕ → List ℕ → Result Line ParseError → Type 0
+abbrev pub Parsed : List ℕ → List ℕ → Result Line (Trouble Malformed) → Type 0
 Parsed text line r = Agrees said (line_of text line) r

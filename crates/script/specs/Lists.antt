@@ -1,10 +1,11 @@
 -- Lists of numbers, word by word.
 use Rattle.std.specs.Prelude.{◌≡◌, ℕ, ◌^◌, Bool, cond, ◌&&◌, List, [], ◌∷◌, Some, None, Ok, codes, Option, Result}
 use Rattle.std.specs.Borrow.{Bor}
+use Rattle.std.specs.Iterator.{YieldsFirstRef}
 use Rattle.std.specs.Str.{bytes_eq}
 use Rattle.script.specs.declared.line.Malformed.{Malformed}
 use Rattle.script.specs.Numbers.{last_number, number_below}
-use Rattle.script.specs.Words.{alone, and_then, words_of}
+use Rattle.script.specs.Words.{alone, and_then}
 
 -- A list may end at the word `into`.
 abbrev pub stops : Bool → List ℕ → Bool
@@ -20,10 +21,19 @@ abbrev pub after_list : Bool → List (List ℕ) → List (List ℕ)
 after_list into [] = []
 after_list into (w ∷ ws) = cond (stops into w) (w ∷ ws) (after_list into ws)
 
--- The first word of a list, with what follows it; none where the list has ended.
-abbrev pub ListSplit : Bool → List ℕ → Option (Bor (List ℕ) × Bor (List ℕ)) → Type 0
-ListSplit into line None = (list_words into (words_of line) ≡ []) × (after_list into (words_of line) ≡ words_of line)
-ListSplit into line (Some p) = (list_words into (words_of line) ≡ p.0.now ∷ list_words into (words_of p.1.now)) × (after_list into (words_of line) ≡ after_list into (words_of p.1.now))
+-- The words of a list that are still to come, and the words from its end on.
+pub record ListParts : Type 0 where
+  pub left : List (List ℕ)
+  pub after : List (List ℕ)
+
+-- The next word of a list; none where it has ended. What follows the list stays.
+abbrev pub NextOfList : ListParts → Option (Bor (List ℕ)) → ListParts → Type 0
+NextOfList old r new = YieldsFirstRef (λ l. l.left) old r new × (new.after ≡ old.after)
+
+-- All words of the list were taken.
+pub record IsEnded (old new : ListParts) : Type 0 where
+  pub none_left : new.left ≡ []
+  pub same : new.after ≡ old.after
 
 -- The numbers that words write.
 abbrev pub numbers_of : List (List ℕ) → Result (List ℕ) Malformed

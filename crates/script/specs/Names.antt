@@ -1,16 +1,11 @@
 -- The words for names.
-use Rattle.std.specs.Prelude.{◌≡◌, ℕ, ◌+◌, ◌^◌, Bool, cond, ◌&&◌, List, [], ◌∷◌, length, take, drop, Some, None, Ok, Err, Option, Result, nat_eq, nat_lt}
+use Rattle.std.specs.Prelude.{ℕ, ◌+◌, ◌^◌, Bool, cond, ◌&&◌, List, [], ◌∷◌, length, take, drop, position, Some, None, Ok, Err, Option, Result, nat_eq, nat_lt}
 use Rattle.std.specs.Str.{bytes_eq}
-use Rattle.common.specs.Firsts.{First, first_place}
 use Rattle.common.specs.declared.name.Name.{Name}
 use Rattle.script.specs.declared.line.Malformed.{Malformed}
 use Rattle.script.specs.declared.line.Malformed.TheVariants.{NotAName, NotInText}
 use Rattle.script.specs.Numbers.{number_below}
 use Rattle.script.specs.Words.{and_then, begins_with}
-
--- The place of the first item that passes a test, and what that says of the items.
-abbrev pub Found : {X : Type 0} → (X → Bool) → List X → Option ℕ → Type 0
-Found test xs r = (r ≡ first_place test xs 0) × First test xs r
 
 -- What is left of a text from each of its places on.
 abbrev pub tails : List ℕ → List (List ℕ)
@@ -23,7 +18,7 @@ stands_in w bs = bytes_eq w (take (length w) bs)
 
 -- The first place of the text where the bytes of a word stand.
 abbrev pub place_of : List ℕ → List ℕ → Option ℕ
-place_of text w = first_place (stands_in w) (tails text) 0
+place_of text w = position (stands_in w) (tails text)
 
 -- A start and a length.
 abbrev pub name_from : ℕ → ℕ → Name
@@ -41,7 +36,7 @@ name_split (Some i) w = and_then (number_below (2 ^ 32) (take i w)) (λ s. and_t
 
 -- The name that START:LEN writes.
 abbrev pub name_given : List ℕ → Result Name Malformed
-name_given w = name_split (first_place (λ b. nat_eq b 58) w 0) w
+name_given w = name_split (position (λ b. nat_eq b 58) w) w
 
 -- The name that a word stands for: after an @ its start and length, and else where the word stands in the text.
 abbrev pub name_of : List ℕ → List ℕ → Result Name Malformed

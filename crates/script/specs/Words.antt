@@ -2,6 +2,7 @@
 use Rattle.std.specs.Prelude.{◌≡◌, ℕ, Bool, true, false, cond, not, ◌||◌, List, [], ◌∷◌, ◌++◌, take, drop, Some, None, Ok, Err, Option, Result, ◌==◌}
 use Rattle.std.specs.Borrow.{Bor}
 use Rattle.std.specs.List.{prefix_len}
+use Rattle.std.specs.Str.{bytes_eq}
 use Rattle.script.specs.declared.line.Malformed.{Malformed}
 use Rattle.script.specs.declared.line.Malformed.TheVariants.{MissingWord, ExtraWord}
 
@@ -53,6 +54,11 @@ Split line (Some p) = (words_of line ≡ p.0.now ∷ words_of p.1.now) × (p.0.n
 abbrev pub begins_with : ℕ → List ℕ → Bool
 begins_with byte [] = false
 begins_with byte (b ∷ bs) = b == byte
+
+-- Whether the next word is this one.
+abbrev pub comes_next : List ℕ → List (List ℕ) → Bool
+comes_next word [] = false
+comes_next word (w ∷ ws) = bytes_eq w word
 
 -- Nothing may follow.
 abbrev pub alone : {X : Type 0} → X → List (List ℕ) → Result X Malformed

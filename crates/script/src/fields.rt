@@ -1,47 +1,39 @@
 // A field, word by word.
 ghost use Rattle.std.specs.Prelude.{◌≡◌};
 ghost use Rattle.script.specs.Fields.{after_null, field_end, field_of, field_typed, null_of, tag_of};
-ghost use Rattle.script.specs.Words.{words_of};
 
 use crate::line::Malformed;
 use crate::names::name;
 use crate::number::last_number;
 use crate::types::type_number;
-use crate::words::next_word;
-use common::{Field, Name, equal_bytes};
+use crate::words::Words;
+use common::{Field, Name};
 
-// Whether the word `null` comes next, and what follows it.
-fn null_word(line: &[u8]) -> (bool, &[u8])
-    ensures nullable { result.0 ≡ null_of (words_of line.now) }
-    ensures rest { words_of result.1.now ≡ after_null (words_of line.now) }
+// Whether the word `null` comes next, which is then taken.
+fn takes_null(words: &mut Words<'_>) -> bool
+    ensures nullable { result ≡ null_of words.old }
+    ensures rest { words.new ≡ after_null words.old }
 {
-    if let Some((word, rest)) = next_word(line) {
-        if equal_bytes(word, b"null") {
-            return (true, rest);
-        }
-    }
-    (false, line)
+    words.take_if(b"null")
 }
 
 // The tag at the end of a field.
-fn last_tag(line: &[u8]) -> Result<u32, Malformed>
-    ensures { result ≡ tag_of (words_of line.now) }
+fn last_tag(mut words: Words<'_>) -> Result<u32, Malformed>
+    ensures { result ≡ tag_of words.entry }
 {
-    let Some((word, rest)) = next_word(line) else {
-        return Ok(0);
-    };
-    if !equal_bytes(word, b"tag") {
-        return Err(Malformed::ExtraWord);
+    match words.next() {
+        None => Ok(0),
+        Some(b"tag") => last_number(words),
+        Some(_) => Err(Malformed::ExtraWord),
     }
-    last_number(rest)
 }
 
 // A field of that name and type, and what follows them.
-fn field_end(name: Name, data_type: u8, line: &[u8]) -> Result<Field, Malformed>
-    ensures { result ≡ field_end name data_type (words_of line.now) }
+fn field_end(name: Name, data_type: u8, mut words: Words<'_>) -> Result<Field, Malformed>
+    ensures { result ≡ field_end name data_type words.entry }
 {
-    let (nullable, rest) = null_word(line);
-    let tag = last_tag(rest)?;
+    let nullable = takes_null(&mut words);
+    let tag = last_tag(words)?;
     Ok(Field {
         name,
         data_type,
@@ -51,23 +43,17 @@ fn field_end(name: Name, data_type: u8, line: &[u8]) -> Result<Field, Malformed>
 }
 
 // A field of that name, and what follows it.
-fn typed_field(name: Name, line: &[u8]) -> Result<Field, Malformed>
-    ensures { result ≡ field_typed name (words_of line.now) }
+fn typed_field(name: Name, mut words: Words<'_>) -> Result<Field, Malformed>
+    ensures { result ≡ field_typed name words.entry }
 {
-    let Some((word, rest)) = next_word(line) else {
-        return Err(Malformed::MissingWord);
-    };
-    let data_type = type_number(word)?;
-    field_end(name, data_type, rest)
+    let data_type = type_number(words.need()?)?;
+    field_end(name, data_type, words)
 }
 
 // The field that the line writes.
-pub(crate) fn read_field(text: &[u8], line: &[u8]) -> Result<Field, Malformed>
-    ensures { result ≡ field_of text.now (words_of line.now) }
+pub(crate) fn read_field(text: &[u8], mut words: Words<'_>) -> Result<Field, Malformed>
+    ensures { result ≡ field_of text.now words.entry }
 {
-    let Some((word, rest)) = next_word(line) else {
-        return Err(Malformed::MissingWord);
-    };
-    let name = name(text, word)?;
-    typed_field(name, rest)
+    let name = name(text, words.need()?)?;
+    typed_field(name, words)
 }

@@ -1,15 +1,14 @@
 // A line, from its keyword on.
 ghost use Rattle.std.specs.Prelude.{◌≡◌, IfOk};
-ghost use Rattle.script.specs.Outcomes.{Agrees};
+ghost use Rattle.common.specs.Troubles.{Agrees};
 ghost use Rattle.script.specs.Lines.{combine_of, find_of, keyword_says, lower_of, Parsed, said, text_of, without_return};
-ghost use Rattle.script.specs.Words.{words_of};
 
 use crate::fields::read_field;
-use crate::keyword::{Keyword, read_keyword};
+use crate::keyword::Keyword;
 use crate::line::{Line, Malformed, ParseError};
-use crate::lists::{index_list, last_room};
+use crate::lists::{ListWords, index_list, last_room};
 use crate::names::name;
-use crate::words::{begins_with, ended, next_word, only_word, past};
+use crate::words::{Words, split_word};
 use common::Name;
 use std::alloc::{AllocError, Global};
 
@@ -17,45 +16,44 @@ use std::alloc::{AllocError, Global};
 fn without_return(bytes: &[u8]) -> &[u8]
     ensures { result.now ≡ without_return bytes.now }
 {
-    if bytes.is_empty() {
-        return bytes;
+    match bytes {
+        [front @ .., b'\r'] => front,
+        _ => bytes,
     }
-    let last = bytes.len() - 1;
-    if bytes[last] != b'\r' {
-        return bytes;
-    }
-    &bytes[0..last]
 }
 
 // The text that follows its keyword.
 fn read_text(heap: Global, rest: &[u8]) -> Result<Vec<u8>, AllocError>
     ensures { IfOk result (λ v. v.items ≡ text_of rest.now) }
 {
-    Vec::from_slice(heap, without_return(past(rest, 1)))
+    match rest {
+        [_, text @ ..] => Vec::from_slice(heap, without_return(text)),
+        [] => Ok(Vec::new(heap)),
+    }
 }
 
-// The one name of the line.
-fn last_name(text: &[u8], line: &[u8]) -> Result<Name, Malformed>
-    ensures { result ≡ find_of text.now (words_of line.now) }
+// The one name that is left.
+fn last_name(text: &[u8], words: Words<'_>) -> Result<Name, Malformed>
+    ensures { result ≡ find_of text.now words.entry }
 {
-    let word = only_word(line)?;
-    name(text, word)
+    name(text, words.only()?)
 }
 
 // The list that `lower` takes.
-fn read_lower(heap: Global, line: &[u8]) -> Result<Line, ParseError>
-    ensures { Agrees said (lower_of (words_of line.now)) result }
+fn read_lower(heap: Global, words: Words<'_>) -> Result<Line, ParseError>
+    ensures { Agrees said (lower_of words.entry) result }
 {
-    let (list, _) = index_list(heap, line, false)?;
+    let list = index_list(heap, &mut ListWords::to_end(words))?;
     Ok(Line::Lower(list))
 }
 
 // The list and the room that `combine` takes.
-fn read_combine(heap: Global, line: &[u8]) -> Result<Line, ParseError>
-    ensures { Agrees said (combine_of (words_of line.now)) result }
+fn read_combine(heap: Global, words: Words<'_>) -> Result<Line, ParseError>
+    ensures { Agrees said (combine_of words.entry) result }
 {
-    let (upper, rest) = index_list(heap, line, true)?;
-    let room = last_room(rest)?;
+    let mut list = ListWords::up_to_into(words);
+    let upper = index_list(heap, &mut list)?;
+    let room = last_room(list.rest())?;
     Ok(Line::Combine { upper, room })
 }
 
@@ -68,20 +66,21 @@ fn keyword_line(
 ) -> Result<Line, ParseError>
     ensures { Agrees said (keyword_says text.now rest.now keyword) result }
 {
+    let words = Words::of(rest);
     match keyword {
         Keyword::Help => {
-            ended(rest)?;
+            words.end()?;
             Ok(Line::Help)
         }
         Keyword::Text => Ok(Line::Text(read_text(heap, rest)?)),
-        Keyword::Field => Ok(Line::Field(read_field(text, rest)?)),
+        Keyword::Field => Ok(Line::Field(read_field(text, words)?)),
         Keyword::Schema => {
-            ended(rest)?;
+            words.end()?;
             Ok(Line::Schema)
         }
-        Keyword::Find => Ok(Line::Find(last_name(text, rest)?)),
-        Keyword::Lower => read_lower(heap, rest),
-        Keyword::Combine => read_combine(heap, rest),
+        Keyword::Find => Ok(Line::Find(last_name(text, words)?)),
+        Keyword::Lower => read_lower(heap, words),
+        Keyword::Combine => read_combine(heap, words),
     }
 }
 
@@ -89,12 +88,12 @@ fn keyword_line(
 pub fn parse(heap: Global, text: &[u8], line: &[u8]) -> Result<Line, ParseError>
     ensures { Parsed text.now line.now result }
 {
-    let Some((word, rest)) = next_word(line) else {
+    let Some((word, rest)) = split_word(line) else {
         return Ok(Line::Blank);
     };
-    if begins_with(word, b'#') {
+    if let [b'#', ..] = word {
         return Ok(Line::Blank);
     }
-    let keyword = read_keyword(word)?;
+    let keyword = Keyword::try_from(word)?;
     keyword_line(heap, text, keyword, rest)
 }

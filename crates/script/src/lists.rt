@@ -1,80 +1,127 @@
 // Lists of numbers, word by word.
-ghost use Rattle.std.specs.Prelude.{◌≡◌, IfOk, vec_items, OnOk};
+ghost use Rattle.std.specs.Prelude.{◌≡◌, true, [], codes, drop, if◌then◌else◌, vec_items, OnOk};
+ghost use Rattle.std.specs.Iterator.{item_count};
 ghost use Rattle.std.specs.Option.{option_map};
-ghost use Rattle.script.specs.Outcomes.{Agrees};
-ghost use Rattle.script.specs.Lists.{after_list, list_of, ListSplit, list_words, numbers_of, room_of};
-ghost use Rattle.script.specs.Words.{alone, words_of};
+ghost use Rattle.common.specs.Troubles.{Agrees};
+ghost use Rattle.script.specs.Lists.{after_list, list_of, list_words, numbers_of, room_of, IsEnded, NextOfList};
+ghost use Rattle.script.specs.Words.{alone, comes_next};
 
 use crate::line::{Malformed, ParseError};
 use crate::number::{last_number, number};
-use crate::words::next_word;
-use common::equal_bytes;
+use crate::words::Words;
 use std::alloc::Global;
+use std::marker::Model;
 
-// The first word of the list, which may end at the word `into`, and what follows it.
-fn list_word(line: &[u8], into: bool) -> Option<(&[u8], &[u8])>
-    ensures { ListSplit into line.now result }
-{
-    let Some((word, rest)) = next_word(line) else {
-        return None;
-    };
-    if into && equal_bytes(word, b"into") {
-        return None;
-    }
-    Some((word, rest))
+// The words of a list that are still to come, and what follows the list: it may end at the word `into`.
+#[derive(Clone, Drop)]
+pub(crate) struct ListWords<'a> {
+    words: Words<'a>,
+    into: bool,
 }
 
-// The numbers of the list, and what follows it.
-fn numbers(heap: Global, line: &[u8], into: bool) -> Result<(Vec<u32>, &[u8]), ParseError>
-    ensures list { Agrees (λ p. p.0.items) (numbers_of (list_words into (words_of line.now))) result }
-    ensures rest { IfOk result (λ p. words_of p.1.now ≡ after_list into (words_of line.now)) }
-{
-    let mut list = Vec::new(heap);
-    let mut rest = line;
-    while let Some((word, after)) = list_word(rest, into) {
-        list.push(number(word)?)?;
-        rest = after;
-    }
-    Ok((list, rest))
+impl<'a> Model for ListWords<'a> {
+    ghost use Rattle.script.specs.Lists.{ListParts, after_list, list_words};
+
+    ghost Value = { ListParts };
+
+    ghost view = { λ l. record { left = list_words l.into l.words; after = after_list l.into l.words } };
 }
 
-// The list has ended.
-fn list_ended(line: &[u8], into: bool) -> Result<(), Malformed>
-    ensures value { result ≡ alone tt (list_words into (words_of line.now)) }
-    ensures rest { OnOk result (words_of line.now ≡ after_list into (words_of line.now)) }
-{
-    match list_word(line, into) {
-        Some(_) => Err(Malformed::ExtraWord),
-        None => Ok(()),
+impl<'a> Iterator for ListWords<'a> {
+    type Item = &'a [u8];
+
+    ghost next_gives = { NextOfList };
+
+    ghost remaining = { item_count (λ l. l.left) };
+
+    fn next(&mut self) -> Option<&'a [u8]> {
+        if self.into && self.words.comes_next(b"into") {
+            return None;
+        }
+        self.words.next()
     }
+}
+
+impl<'a> ListWords<'a> {
+    // A list that ends with its line.
+    #[tactic(auto, using(crate::proofs::Gathers::list_to_end, crate::proofs::Gathers::none_after))]
+    pub(crate) fn to_end(words: Words<'a>) -> ListWords<'a>
+        ensures list { result.left ≡ words.entry }
+        ensures after { result.after ≡ [] }
+    {
+        ListWords { words, into: false }
+    }
+
+    // A list that may end at the word `into`.
+    pub(crate) fn up_to_into(words: Words<'a>) -> ListWords<'a>
+        ensures list { result.left ≡ list_words true words.entry }
+        ensures after { result.after ≡ after_list true words.entry }
+    {
+        ListWords { words, into: true }
+    }
+
+    // Whether the word `absent` comes next, which is then taken.
+    fn takes_absent(&mut self) -> bool
+        ensures taken { result ≡ comes_next (codes "absent") self.old.left }
+        ensures list { self.new.left ≡ (if result then drop 1 self.old.left else self.old.left) }
+        ensures after { self.new.after ≡ self.old.after }
+    {
+        self.words.take_if(b"absent")
+    }
+
+    // The list has ended.
+    fn end(&mut self) -> Result<(), Malformed>
+        ensures value { result ≡ alone tt self.old.left }
+        ensures rest { OnOk result (IsEnded self.old self.new) }
+    {
+        match self.next() {
+            Some(_) => Err(Malformed::ExtraWord),
+            None => Ok(()),
+        }
+    }
+
+    // What follows the list, once it has ended.
+    #[tactic(auto, using(crate::proofs::Gathers::all_after))]
+    pub(crate) fn rest(self) -> Words<'a>
+        ensures { self.entry.left ≡ [] → result ≡ self.entry.after }
+    {
+        self.words
+    }
+}
+
+// The numbers of the list.
+fn numbers(heap: Global, list: &mut ListWords<'_>) -> Result<Vec<u32>, ParseError>
+    ensures value { Agrees vec_items (numbers_of list.old.left) result }
+    ensures rest { OnOk result (IsEnded list.old list.new) }
+{
+    let mut numbers = Vec::new(heap);
+    while let Some(word) = list.next() {
+        numbers.push(number(word)?)?;
+    }
+    Ok(numbers)
+}
+
+// The index list.
+pub(crate) fn index_list(
+    heap: Global,
+    list: &mut ListWords<'_>,
+) -> Result<Option<Vec<u32>>, ParseError>
+    ensures value { Agrees (option_map vec_items) (list_of list.old.left) result }
+    ensures rest { OnOk result (IsEnded list.old list.new) }
+{
+    if list.takes_absent() {
+        list.end()?;
+        return Ok(None);
+    }
+    Ok(Some(numbers(heap, list)?))
 }
 
 // The room that follows a list.
-pub(crate) fn last_room(line: &[u8]) -> Result<Option<u32>, Malformed>
-    ensures { result ≡ room_of (words_of line.now) }
+pub(crate) fn last_room(mut words: Words<'_>) -> Result<Option<u32>, Malformed>
+    ensures { result ≡ room_of words.entry }
 {
-    let Some((_, rest)) = next_word(line) else {
-        return Ok(None);
-    };
-    let room = last_number(rest)?;
-    Ok(Some(room))
-}
-
-// The index list, and what follows it.
-pub(crate) fn index_list(
-    heap: Global,
-    line: &[u8],
-    into: bool,
-) -> Result<(Option<Vec<u32>>, &[u8]), ParseError>
-    ensures list { Agrees (λ p. option_map vec_items p.0) (list_of (list_words into (words_of line.now))) result }
-    ensures rest { IfOk result (λ p. words_of p.1.now ≡ after_list into (words_of line.now)) }
-{
-    if let Some((word, rest)) = list_word(line, into) {
-        if equal_bytes(word, b"absent") {
-            list_ended(rest, into)?;
-            return Ok((None, rest));
-        }
+    match words.next() {
+        None => Ok(None),
+        Some(_) => Ok(Some(last_number(words)?)),
     }
-    let (list, rest) = numbers(heap, line, into)?;
-    Ok((Some(list), rest))
 }

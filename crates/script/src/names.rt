@@ -1,46 +1,32 @@
 // The words for names.
-ghost use Rattle.std.specs.Prelude.{◌≡◌, length, nat_eq};
-ghost use Rattle.script.specs.Names.{Found, name_at, name_given, name_of, place_of, stands_in, tails};
+ghost use Rattle.std.specs.Prelude.{◌≡◌, length, nat_eq, position};
+ghost use Rattle.script.specs.Names.{name_at, name_given, name_of, place_of};
 
 use crate::line::Malformed;
 use crate::number::{number, small_number};
-use crate::words::{begins_with, past};
 use common::Name;
-
-// The place of the first byte of that value.
-fn find_byte(bytes: &[u8], byte: u8) -> Option<usize>
-    ensures { Found (λ b. nat_eq b byte) bytes.now result }
-{
-    for i in 0..bytes.len() {
-        if bytes[i] == byte {
-            return Some(i);
-        }
-    }
-    None
-}
 
 // The first place of the text where the bytes of the word stand.
 fn find_in(text: &[u8], word: &[u8]) -> Option<usize>
-    ensures { Found (stands_in word.now) (tails text.now) result }
+    ensures { result ≡ place_of text.now word.now }
 {
-    for i in 0..text.len() {
-        let rest = &text[i..];
-        if rest.starts_with(word) {
-            return Some(i);
-        }
-    }
-    None
+    (0..text.len()).find(|place| text[*place..].starts_with(word))
+}
+
+// The place of the first colon.
+fn find_colon(word: &[u8]) -> Option<usize>
+    ensures { result ≡ position (λ b. nat_eq b 58) word.now }
+{
+    word.iter().position(|byte| *byte == b':')
 }
 
 // The name that START:LEN writes.
 fn given_name(word: &[u8]) -> Result<Name, Malformed>
     ensures { result ≡ name_given word.now }
 {
-    let Some(colon) = find_byte(word, b':') else {
-        return Err(Malformed::NotAName);
-    };
-    let start = number(&word[0..colon])?;
-    let len = small_number(past(word, colon + 1))?;
+    let colon = find_colon(word).ok_or(Malformed::NotAName)?;
+    let start = number(&word[..colon])?;
+    let len = small_number(&word[colon + 1..])?;
     Ok(Name { start, len })
 }
 
@@ -48,23 +34,19 @@ fn given_name(word: &[u8]) -> Result<Name, Malformed>
 fn spelled_name(text: &[u8], word: &[u8]) -> Result<Name, Malformed>
     ensures { result ≡ name_at (place_of text.now word.now) (length word.now) }
 {
-    let Some(place) = find_in(text, word) else {
-        return Err(Malformed::NotInText);
-    };
-    if place > u32::MAX as usize || word.len() > 255 {
-        return Err(Malformed::NotInText);
+    let place = find_in(text, word).ok_or(Malformed::NotInText)?;
+    match (u32::try_from(place), u8::try_from(word.len())) {
+        (Ok(start), Ok(len)) => Ok(Name { start, len }),
+        _ => Err(Malformed::NotInText),
     }
-    let start = place as u32;
-    let len = word.len() as u8;
-    Ok(Name { start, len })
 }
 
 // The name that the word stands for.
 pub(crate) fn name(text: &[u8], word: &[u8]) -> Result<Name, Malformed>
     ensures { result ≡ name_of text.now word.now }
 {
-    if begins_with(word, b'@') {
-        return given_name(past(word, 1));
+    match word {
+        [b'@', placed @ ..] => given_name(placed),
+        _ => spelled_name(text, word),
     }
-    spelled_name(text, word)
 }

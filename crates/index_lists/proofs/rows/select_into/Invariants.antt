@@ -1,6 +1,10 @@
-use Rattle.std.proofs.Common.{get_or}
-use Rattle.index_lists.proofs.Fronts.{Written}
+use Rattle.std.proofs.Common.{◌≡◌, take, drop}
+use Rattle.index_lists.specs.Combine.{read_by}
 use Rattle.index_lists.proofs.rows.select_into.Given as goal
 
-abbrev pub invariant-loop-i : goal.invariant-loop-i
-invariant-loop-i g l = Written (λ k. get_or l.row k l.missing) l.indices l.initial.out l.out l.i
+-- The front holds the cells of the indices that were passed, and the rest is as before.
+abbrev pub invariant-loop-place : goal.invariant-loop-place
+invariant-loop-place g l = record {
+  front : take l.place l.out ≡ read_by l.missing l.row (take l.place l.indices);
+  rest : drop l.place l.out ≡ drop l.place l.initial.out;
+}
