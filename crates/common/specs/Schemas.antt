@@ -10,7 +10,7 @@ use Rattle.common.specs.Names.{is_name, same_name}
 use Rattle.common.specs.Types.{type_of}
 
 -- A schema is the first 65,535 fields of the list given.
-abbrev pub schema_of : List Field → List Field
+unfoldable pub schema_of : List Field → List Field
 schema_of fields = take 65535 fields
 
 -- What is wrong with the field at a place: first its name, then its type.

@@ -42,12 +42,20 @@ impl ItemCheck for FieldCheck<'_> {
     }
 }
 
+// The fields that count.
+#[tactic(auto, using(std::proofs::lemmas::List::take_min), unfolding(crate::specs::Schemas::schema_of))]
+fn counted(fields: &[Field]) -> &[Field]
+    ensures { result.now ≡ schema_of fields.now }
+{
+    &fields[..SCHEMA_LIMIT.min(fields.len())]
+}
+
 // The schema that a list of fields is: its first 65,535. The first field with something wrong refuses it, by its name
 // before its type.
 pub fn schema<'a>(text: &[u8], fields: &'a [Field]) -> Result<&'a [Field], Fault>
     ensures { result_map_both (λ x. x.now) (λ e. e) result ≡ or_fault (schema_fault text.now fields.now) (schema_of fields.now) }
 {
-    let within = &fields[..SCHEMA_LIMIT.min(fields.len())];
+    let within = counted(fields);
     check_items(&FieldCheck { text }, within)?;
     Ok(within)
 }

@@ -6,19 +6,27 @@ use Rattle.common.specs.declared.refusal.Fault.{Fault}
 use Rattle.common.specs.declared.refusal.Refusal.{Refusal}
 use Rattle.std.specs.Option.{option_or}
 use Rattle.common.specs.Firsts.{first_fault, or_fault, unless}
-use Rattle.common.proofs.Faults.{none_from_ok, ok_is}
 use Rattle.index_lists.specs.Combine.{combine, combined, combine_fault, index_fault, read_by, read_by_any, room_fault}
 
+-- What came out of a check says whether it found a fault.
+none_from_ok : {X : Type 0} (o : Option Fault) (x y : X) → Ok y ≡ or_fault o x → o ≡ None
+none_from_ok None x y e = refl
+none_from_ok (Some f) x y e = cc
+
+ok_is : {X : Type 0} (o : Option Fault) (x y : X) → Ok y ≡ or_fault o x → y ≡ x
+ok_is None x y e = cc
+ok_is (Some f) x y e = cc
+
 -- Two checks that find nothing each find nothing.
-pub first_none : (a b : Option Fault) → option_or a b ≡ None → a ≡ None
+first_none : (a b : Option Fault) → option_or a b ≡ None → a ≡ None
 first_none None b e = refl
 first_none (Some f) b e = e
 
-pub next_none : (a b : Option Fault) → option_or a b ≡ None → b ≡ None
+next_none : (a b : Option Fault) → option_or a b ≡ None → b ≡ None
 next_none None b e = e
 next_none (Some f) b e = cc
 
-pub unless_none : (b : Bool) (r : Refusal) (p : ℕ) → unless b r p ≡ None → b ≡ true
+unless_none : (b : Bool) (r : Refusal) (p : ℕ) → unless b r p ≡ None → b ≡ true
 unless_none true r p e = refl
 unless_none false r p e = cc
 
@@ -35,7 +43,7 @@ module _ {Cell : Type 0} (missing : Cell) (row : List Cell) (lower : List ℕ) w
       let rest = reads_all upper (p + 1) (next_none (index_fault lower i p) (first_fault (index_fault lower) upper (p + 1)) e) in
       cc
 
-  pub reads_over : (upper : List ℕ) (room : ℕ) → combine_fault upper (Some lower) room ≡ None → read_by missing row (read_by 0 lower upper) ≡ read_by missing (read_by missing row lower) upper
+  reads_over : (upper : List ℕ) (room : ℕ) → combine_fault upper (Some lower) room ≡ None → read_by missing row (read_by 0 lower upper) ≡ read_by missing (read_by missing row lower) upper
   reads_over upper room e = reads_all upper 0 (first_none (first_fault (index_fault lower) upper 0) (room_fault upper room) e)
 
 -- What is granted is the answer.

@@ -91,11 +91,11 @@ mod tests {
 
     #[test]
     fn types_are_numbered_1_to_6(rt: HostRuntime) {
-        assert!(rt; DataType::from_number(0).is_none());
-        assert!(rt; DataType::from_number(7).is_none());
-        assert!(rt; DataType::from_number(255).is_none());
-        assert!(rt; DataType::from_number(6) == Some(DataType::Utf8));
-        assert!(rt; DataType::Int64.number() == 4);
+        assert!(rt; DataType::try_from(0).is_err());
+        assert!(rt; DataType::try_from(7).is_err());
+        assert!(rt; DataType::try_from(255).is_err());
+        assert!(rt; DataType::try_from(6) == Ok(DataType::Utf8));
+        assert!(rt; u8::from(DataType::Int64) == 4);
     }
 
     #[test]
@@ -111,10 +111,7 @@ mod tests {
     }
 
     fn refused(text: &[u8], fields: &[Field]) -> Option<Fault> {
-        match schema(text, fields) {
-            Ok(_) => None,
-            Err(fault) => Some(fault),
-        }
+        schema(text, fields).err()
     }
 
     #[test]
@@ -279,10 +276,8 @@ mod tests {
             Refusal::BatchFull,
             Refusal::ListTooShort,
         ];
-        let mut number: u8 = 0;
-        for refusal in refusals {
-            number = number.saturating_add(1);
-            assert_eq!(rt; refusal.number(), number);
+        for (number, refusal) in (1u8..=19).zip(refusals) {
+            assert_eq!(rt; u8::from(refusal), number);
             assert!(rt; is_told(rt.alloc(), refusal, number)?);
         }
         Ok(())

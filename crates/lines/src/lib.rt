@@ -12,9 +12,7 @@ mod tests {
     fn last_answer(heap: Global, script: &str) -> Result<String, Fail> {
         let mut session = Session::new(heap);
         let mut answer = String::new(heap);
-        let mut number: u64 = 0;
-        for line in script.split('\n') {
-            number = number.saturating_add(1);
+        for (number, line) in (1..=u64::MAX).zip(script.split('\n')) {
             answer = reply(heap, &mut session, number, line.as_bytes())?;
         }
         Ok(answer)

@@ -1,5 +1,5 @@
 // What a person is shown.
-use common::{DataType, Field};
+use common::{DataType, Field, Name};
 use std::fmt;
 
 // Bytes as a person reads them: printable ASCII as it stands, any other byte as \xNN.
@@ -11,113 +11,75 @@ pub struct Plain<'a> {
 impl fmt::Display for Plain<'_> {
     fn fmt<W: fmt::Write>(&self, f: &mut fmt::Formatter<W>) -> fmt::Result {
         for byte in self.bytes {
-            let b = *byte;
-            if b >= b' ' && b <= b'~' {
-                f.write_char(b as char)?;
-            } else {
-                write!(f, "\\x{b:02x}")?;
+            match byte {
+                b' '..=b'~' => f.write_char(char::from(*byte))?,
+                _ => write!(f, "\\x{byte:02x}")?,
             }
         }
         Ok(())
     }
 }
 
-// A field over its text: its name, or where it would lie that is no name, and its type, or the number that is none.
-#[derive(Clone, Copy)]
-struct NamedField<'a> {
-    text: &'a [u8],
-    field: Field,
-}
-
-impl NamedField<'_> {
-    fn show_name<W: fmt::Write>(&self, f: &mut fmt::Formatter<W>) -> fmt::Result {
-        let name = self.field.name;
-        let start = name.start;
-        let len = name.len;
-        match name.bytes(self.text) {
-            Some(bytes) => {
-                let plain = Plain { bytes };
-                write!(f, "{plain}")
-            }
-            None => write!(f, "@{start}:{len}"),
-        }
-    }
-
-    fn show_type<W: fmt::Write>(&self, f: &mut fmt::Formatter<W>) -> fmt::Result {
-        let number = self.field.data_type;
-        match DataType::from_number(number) {
-            Some(data_type) => write!(f, " {data_type}"),
-            None => write!(f, " type {number}"),
-        }
+// A name over its text: its bytes, or where it would lie that is no name.
+fn show_name<W: fmt::Write>(name: Name, text: &[u8], f: &mut fmt::Formatter<W>) -> fmt::Result {
+    match name.bytes(text) {
+        Some(bytes) => write!(f, "{}", Plain { bytes }),
+        None => write!(f, "@{}:{}", name.start, name.len),
     }
 }
 
-impl fmt::Display for NamedField<'_> {
-    fn fmt<W: fmt::Write>(&self, f: &mut fmt::Formatter<W>) -> fmt::Result {
-        self.show_name(f)?;
-        self.show_type(f)?;
-        let tag = self.field.tag;
-        if self.field.nullable {
+// A type by its number: its name, or the number that is none.
+fn show_type<W: fmt::Write>(number: u8, f: &mut fmt::Formatter<W>) -> fmt::Result {
+    match DataType::try_from(number) {
+        Ok(data_type) => write!(f, " {data_type}"),
+        Err(_) => write!(f, " type {number}"),
+    }
+}
+
+// What is shown over a text of names.
+pub(crate) trait Shown {
+    fn show<W: fmt::Write>(&self, text: &[u8], f: &mut fmt::Formatter<W>) -> fmt::Result;
+}
+
+impl Shown for Field {
+    // The field's name, its type, and what it may be besides.
+    fn show<W: fmt::Write>(&self, text: &[u8], f: &mut fmt::Formatter<W>) -> fmt::Result {
+        show_name(self.name, text, f)?;
+        show_type(self.data_type, f)?;
+        if self.nullable {
             f.write_str(" null")?;
         }
-        if tag > 0 {
-            write!(f, " tag {tag}")?;
+        if self.tag > 0 {
+            write!(f, " tag {}", self.tag)?;
         }
         Ok(())
     }
 }
 
-// The first so many fields over their text, one after another.
-#[derive(Clone, Copy)]
-pub(crate) struct FieldList<'a> {
-    pub(crate) text: &'a [u8],
-    pub(crate) fields: &'a [Field],
-    pub(crate) count: usize,
-}
-
-impl fmt::Display for FieldList<'_> {
-    fn fmt<W: fmt::Write>(&self, f: &mut fmt::Formatter<W>) -> fmt::Result {
-        for (i, field) in self.fields.iter().take(self.count).enumerate() {
-            let named = NamedField {
-                text: self.text,
-                field: *field,
-            };
-            if i > 0 {
-                f.write_str(", ")?;
-            }
-            write!(f, "{named}")?;
-        }
-        Ok(())
-    }
-}
-
-// The names of columns, one after another.
-#[derive(Clone, Copy)]
-pub(crate) struct ColumnList<'a> {
-    pub(crate) text: &'a [u8],
-    pub(crate) columns: &'a [Option<Field>],
-}
-
-impl ColumnList<'_> {
-    fn show<W: fmt::Write>(&self, column: Option<Field>, f: &mut fmt::Formatter<W>) -> fmt::Result {
-        match column {
-            Some(field) => NamedField {
-                text: self.text,
-                field,
-            }
-            .show_name(f),
+impl Shown for Option<Field> {
+    // The name of a column that an index picks, where it picks one.
+    fn show<W: fmt::Write>(&self, text: &[u8], f: &mut fmt::Formatter<W>) -> fmt::Result {
+        match self {
+            Some(field) => show_name(field.name, text, f),
             None => f.write_str("(past the schema)"),
         }
     }
 }
 
-impl fmt::Display for ColumnList<'_> {
+// Items over their text, one after another.
+#[derive(Clone, Copy)]
+pub(crate) struct Listed<'a, T> {
+    pub(crate) text: &'a [u8],
+    pub(crate) items: &'a [T],
+}
+
+impl<T: Shown> fmt::Display for Listed<'_, T> {
     fn fmt<W: fmt::Write>(&self, f: &mut fmt::Formatter<W>) -> fmt::Result {
-        for (i, column) in self.columns.iter().enumerate() {
-            if i > 0 {
+        for (place, item) in self.items.iter().enumerate() {
+            if place > 0 {
                 f.write_str(", ")?;
             }
-            self.show(*column, f)?;
+            item.show(self.text, f)?;
         }
         Ok(())
     }

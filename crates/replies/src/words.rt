@@ -1,12 +1,12 @@
 // One line of a script, answered in words.
 ghost use Rattle.std.specs.Prelude.{◌≡◌, OnOk};
 ghost use Rattle.script.specs.Lines.{line_of};
-ghost use Rattle.session.specs.Sessions.{view};
 ghost use Rattle.session.specs.Steps.{stepped_by};
 
-use crate::show::{ColumnList, FieldList, IndexList};
-use script::{ParseError, parse};
-use session::{Answer, Session, Trouble};
+use crate::show::{IndexList, Listed};
+use common::Trouble;
+use script::parse;
+use session::{Answer, Session};
 use std::alloc::{AllocError, Global};
 
 // What `help` prints.
@@ -28,9 +28,9 @@ fn show_list(heap: Global, session: &Session) -> Result<String, AllocError> {
     };
     match session.columns(heap) {
         Ok(columns) => {
-            let names = ColumnList {
+            let names = Listed {
                 text: session.text(),
-                columns: columns.as_slice(),
+                items: columns.as_slice(),
             };
             format!(in heap; "{list}: {names}")
         }
@@ -49,10 +49,10 @@ fn show_answer(heap: Global, session: &Session, answer: Answer) -> Result<String
         Answer::Text(count) => format!(in heap; "a text of {count} bytes"),
         Answer::Field(place) => format!(in heap; "field {place}"),
         Answer::Schema(count) => {
-            let fields = FieldList {
+            let fields = session.fields();
+            let fields = Listed {
                 text: session.text(),
-                fields: session.fields(),
-                count,
+                items: fields.get(..count).unwrap_or(fields),
             };
             format!(in heap; "a schema of {count} fields: {fields}")
         }
@@ -69,7 +69,7 @@ pub fn reply(
     number: u64,
     line: &[u8],
 ) -> Result<String, AllocError>
-    ensures { OnOk result (view session.new ≡ stepped_by (view session.old) (line_of (view session.old).text line.now)) }
+    ensures { OnOk result (session.new ≡ stepped_by session.old (line_of session.old.text line.now)) }
 {
     match parse(heap, session.text(), line) {
         Ok(line) => match session.perform(heap, line) {
@@ -77,7 +77,7 @@ pub fn reply(
             Err(Trouble::Refused(fault)) => format!(in heap; "{fault}"),
             Err(Trouble::Memory) => Err(AllocError),
         },
-        Err(ParseError::Malformed(malformed)) => format!(in heap; "line {number}: {malformed}"),
-        Err(ParseError::Memory) => Err(AllocError),
+        Err(Trouble::Refused(malformed)) => format!(in heap; "line {number}: {malformed}"),
+        Err(Trouble::Memory) => Err(AllocError),
     }
 }

@@ -1,25 +1,21 @@
 -- What a session keeps, as plain lists.
-use Rattle.std.specs.Prelude.{◌≡◌, ℕ, min, List, [], ◌∷◌, ◌++◌, map, length, Some, None, Ok, Err, vec_items, Option, Result}
-use Rattle.std.specs.Option.{option_map, ok_or}
+use Rattle.std.specs.Prelude.{ℕ, min, List, [], ◌∷◌, ◌++◌, map, length, position, Some, None, Ok, Err, Option, Result}
+use Rattle.std.specs.Option.{ok_or}
 use Rattle.common.specs.declared.field.Field.{Field}
 use Rattle.common.specs.declared.name.Name.{Name}
 use Rattle.common.specs.declared.refusal.Fault.{Fault}
 use Rattle.common.specs.declared.refusal.Refusal.TheVariants.{NoSuchField}
-use Rattle.common.specs.Firsts.{fault, first_place, or_fault}
+use Rattle.common.specs.Firsts.{fault, or_fault}
 use Rattle.common.specs.Schemas.{has_name, schema_fault, schema_of}
 use Rattle.index_lists.specs.Combine.{combine, read_by_any}
-use Rattle.session.specs.declared.state.Session.{Session}
-use Rattle.session.specs.declared.trouble.Trouble.{Trouble}
-use Rattle.session.specs.declared.trouble.Trouble.TheVariants.{Memory, Refused}
+use Rattle.common.specs.declared.trouble.Trouble.{Trouble}
+use Rattle.common.specs.Troubles.{Agrees}
 
 -- The text of names, the fields given so far, and the index list that the next one is to stand on.
 pub record View : Type 0 where
   pub text : List ℕ
   pub fields : List Field
   pub beneath : Option (List ℕ)
-
-abbrev pub view : Session → View
-view s = record { text = vec_items s.text; fields = vec_items s.fields; beneath = option_map vec_items s.beneath }
 
 -- Another text, with no field and no list.
 abbrev pub with_text : List ℕ → View
@@ -44,13 +40,11 @@ schema_count v = or_fault (schema_fault v.text v.fields) (length (schema_of v.fi
 
 -- The first field of the name, once the schema has passed its checks.
 abbrev pub find_field : View → Name → Result ℕ Fault
-find_field v n = after_fault (schema_fault v.text v.fields) (ok_or (first_place (has_name v.text n) (schema_of v.fields) 0) (fault NoSuchField 0))
+find_field v n = after_fault (schema_fault v.text v.fields) (ok_or (position (has_name v.text n) (schema_of v.fields)) (fault NoSuchField 0))
 
 -- A call answers as it is defined to, refusals included, unless the machine has no memory left.
-abbrev pub Answers : {X : Type 0} → Result X Fault → Result X Trouble → Type 0
-Answers given (Ok x) = given ≡ Ok x
-Answers given (Err (Refused f)) = given ≡ Err f
-Answers given (Err Memory) = Unit {0}
+abbrev pub Answers : {X : Type 0} → Result X Fault → Result X (Trouble Fault) → Type 0
+Answers given r = Agrees (λ x. x) given r
 
 -- The length of the output list: as given, but no longer than the answer can be.
 abbrev pub room_for : Option (List ℕ) → Option ℕ → ℕ

@@ -1,7 +1,7 @@
 -- What a line of a script does.
 use Rattle.std.specs.Prelude.{cond, length, is_ok, Ok, Err, Result}
 use Rattle.std.specs.Option.{option_map}
-use Rattle.std.specs.Result as results
+use Rattle.std.specs.Result.{result_map_both}
 use Rattle.common.specs.declared.refusal.Fault.{Fault}
 use Rattle.index_lists.specs.Combine.{counted}
 use Rattle.script.specs.declared.line.Malformed.{Malformed}
@@ -16,10 +16,10 @@ answer_to v says_nothing = Ok Nothing
 answer_to v says_help = Ok Help
 answer_to v (says_text t) = Ok (Text (length t))
 answer_to v (says_field f) = Ok (Field (length v.fields))
-answer_to v says_schema = results.result_map_both Schema (λ e. e) (schema_count v)
-answer_to v (says_find n) = results.result_map_both Found (λ e. e) (find_field v n)
+answer_to v says_schema = result_map_both Schema (λ e. e) (schema_count v)
+answer_to v (says_find n) = result_map_both Found (λ e. e) (find_field v n)
 answer_to v (says_lower l) = Ok (Listed (option_map length l))
-answer_to v (says_combine u room) = results.result_map_both Listed (λ e. e) (counted (combine_on v u room))
+answer_to v (says_combine u room) = result_map_both Listed (λ e. e) (counted (combine_on v u room))
 
 -- What stands after a line that is not refused.
 abbrev pub view_after : View → Said → View

@@ -5,8 +5,6 @@ mod answer;
 mod columns;
 mod perform;
 mod state;
-mod trouble;
 
 pub use answer::Answer;
 pub use state::Session;
-pub use trouble::Trouble;

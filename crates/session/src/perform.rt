@@ -1,20 +1,20 @@
 // One line of a script, performed.
 ghost use Rattle.std.specs.Prelude.{◌≡◌, is_ok, if◌then◌else◌};
 ghost use Rattle.script.specs.Lines.{said};
-ghost use Rattle.session.specs.Sessions.{Answers, view};
+ghost use Rattle.session.specs.Sessions.{Answers};
 ghost use Rattle.session.specs.Steps.{answer_to, view_after};
 
 use crate::answer::Answer;
 use crate::state::{Session, count_of};
-use crate::trouble::Trouble;
+use common::{Fault, Trouble};
 use script::Line;
 use std::alloc::Global;
 
 impl Session {
     // Does what the line says. Refused, or where memory runs out, everything is as before.
-    pub fn perform(&mut self, heap: Global, line: Line) -> Result<Answer, Trouble>
-        ensures value { Answers (answer_to (view self.old) (said line)) result }
-        ensures after { view self.new ≡ (if is_ok result then view_after (view self.old) (said line) else view self.old) }
+    pub fn perform(&mut self, heap: Global, line: Line) -> Result<Answer, Trouble<Fault>>
+        ensures value { Answers (answer_to self.old (said line)) result }
+        ensures after { self.new ≡ (if is_ok result then view_after self.old (said line) else self.old) }
     {
         match line {
             Line::Blank => Ok(Answer::Nothing),

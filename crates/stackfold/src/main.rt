@@ -8,22 +8,17 @@ use std::{env, io};
 
 // Whether `--help` is among the arguments.
 fn asks_for_help(rt: &HostRuntime) -> io::Result<bool> {
-    for argument in env::args(rt)? {
-        if argument.as_str() == "--help" {
-            return Ok(true);
-        }
-    }
-    Ok(false)
+    Ok(env::args(rt)?.any(|argument| argument.as_str() == "--help"))
 }
 
 // Shows each line and its answer, and tells how many lines there were.
 fn answer_lines(rt: &HostRuntime) -> io::Result<u64> {
     let heap = rt.alloc();
     let mut session = Session::new(heap);
-    let mut number: u64 = 0;
-    for line in BufReader::new(heap, rt.stdin())?.split(heap, b'\n') {
+    let lines = BufReader::new(heap, rt.stdin())?.split(heap, b'\n');
+    let mut count = 0;
+    for (number, line) in (1..=u64::MAX).zip(lines) {
         let line = line?;
-        number = number.saturating_add(1);
         let answer = reply(heap, &mut session, number, &line)?;
         let shown = Plain {
             bytes: line.as_slice(),
@@ -32,8 +27,9 @@ fn answer_lines(rt: &HostRuntime) -> io::Result<u64> {
         if !answer.is_empty() {
             println!(rt; "  -> {answer}")?;
         }
+        count = number;
     }
-    Ok(number)
+    Ok(count)
 }
 
 fn main(rt: HostRuntime) -> io::Result<()> {
