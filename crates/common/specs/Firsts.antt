@@ -1,6 +1,6 @@
 -- The first fault of a list, and what it says that an item is the first that passes a test. A check `and then` another is
 -- `option_or`: the fault of the first that finds one.
-use Rattle.std.specs.Prelude.{◌≡◌, ℕ, ◌+◌, ◌<◌, Bool, true, false, cond, List, [], ◌∷◌, length, Some, None, Ok, Err, Option, Result, slice_index_or}
+use Rattle.std.specs.Prelude.{if◌then◌else◌, ◌≡◌, ℕ, ◌+◌, ◌<◌, Bool, true, false, List, [], ◌∷◌, length, Some, None, Ok, Err, Option, Result, slice_index_or}
 use Rattle.std.specs.Option.{option_or}
 use Rattle.common.specs.declared.refusal.Fault.{Fault}
 use Rattle.common.specs.declared.refusal.Refusal.{Refusal}
@@ -16,7 +16,7 @@ or_fault (Some f) x = Err f
 
 -- A refusal at a position unless a condition holds.
 abbrev pub unless : Bool → Refusal → ℕ → Option Fault
-unless b r p = cond b None (Some (fault r p))
+unless b r p = if b then None else Some (fault r p)
 
 -- The fault of the first item that has one, the items being counted from a place: an item's own, or else that of the rest.
 abbrev pub first_fault : {X : Type 0} → (X → ℕ → Option Fault) → List X → ℕ → Option Fault

@@ -1,5 +1,5 @@
 -- Names in a text, and when two of them are equal.
-use Rattle.std.specs.Prelude.{◌≡◌, ℕ, ◌+◌, min, Bool, true, cond, ◌&&◌, ◌||◌, List, length, take, drop, Some, None, Option, ◌==◌, nat_le}
+use Rattle.std.specs.Prelude.{if◌then◌else◌, ◌≡◌, ℕ, ◌+◌, min, Bool, true, ◌&&◌, ◌||◌, List, length, take, drop, Some, None, Option, ◌==◌, nat_le}
 use Rattle.std.specs.Str.{bytes_eq}
 use Rattle.common.specs.declared.name.Name.{Name}
 
@@ -13,7 +13,7 @@ bytes_at text n = take n.len (drop n.start text)
 
 -- The bytes of a name; none for what is no name of the text.
 abbrev pub name_bytes : List ℕ → Name → Option (List ℕ)
-name_bytes text n = cond (is_name text n) (Some (bytes_at text n)) None
+name_bytes text n = if is_name text n then Some (bytes_at text n) else None
 
 -- One start and one length.
 abbrev pub same_place : Name → Name → Bool

@@ -1,5 +1,5 @@
 -- The six types and what they hold.
-use Rattle.std.specs.Prelude.{ℕ, ◌-◌, ◌^◌, Bool, true, false, cond, ◌&&◌, ℤ, pos, negsuc, Some, None, Option, ◌==◌, int_le}
+use Rattle.std.specs.Prelude.{if◌then◌else◌, ℕ, ◌-◌, ◌^◌, Bool, true, false, ◌&&◌, ℤ, pos, negsuc, Some, None, Option, ◌==◌, int_le}
 use Rattle.common.specs.declared.data_type.DataType.{DataType}
 use Rattle.common.specs.declared.data_type.DataType.TheVariants.{Int8, Int16, Int32, Int64, Boolean, Utf8}
 use Rattle.common.specs.declared.data_type.UnknownType.{UnknownType}
@@ -18,12 +18,13 @@ type_number Utf8 = 6
 -- The type of a number; 0 and 7 and up are the number of none.
 abbrev pub type_of : ℕ → Option DataType
 type_of n =
-    cond (n == 1) (Some Int8)
-    (cond (n == 2) (Some Int16)
-    (cond (n == 3) (Some Int32)
-    (cond (n == 4) (Some Int64)
-    (cond (n == 5) (Some Boolean)
-    (cond (n == 6) (Some Utf8) None)))))
+    if n == 1 then Some Int8
+    else (if n == 2 then Some Int16
+    else (if n == 3 then Some Int32
+    else (if n == 4 then Some Int64
+    else (if n == 5 then Some Boolean
+    else (if n == 6 then Some Utf8
+    else None)))))
 
 -- What stands in a type's place for a number of none.
 abbrev pub unknown_type : ℕ → UnknownType

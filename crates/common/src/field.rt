@@ -14,7 +14,7 @@ pub const SCHEMA_LIMIT: usize = 65_535;
 
 // A column's name, the number of its type, whether it may be null, and a tag that stands for its metadata, 0 for none.
 // The name and the type are what the caller gave: `schema` refuses those that are none.
-#[derive(Clone, Copy)]
+#[derive(Clone, Copy, Debug)]
 pub struct Field {
     pub name: Name,
     pub data_type: u8,
@@ -23,7 +23,7 @@ pub struct Field {
 }
 
 // What a field of a schema over the text has to pass.
-#[derive(Clone, Copy)]
+#[derive(Clone, Copy, Debug)]
 pub struct FieldCheck<'a> {
     pub text: &'a [u8],
 }
@@ -53,7 +53,8 @@ fn counted(fields: &[Field]) -> &[Field]
 // The schema that a list of fields is: its first 65,535. The first field with something wrong refuses it, by its name
 // before its type.
 pub fn schema<'a>(text: &[u8], fields: &'a [Field]) -> Result<&'a [Field], Fault>
-    ensures { result_map_both (λ x. x.now) (λ e. e) result ≡ or_fault (schema_fault text.now fields.now) (schema_of fields.now) }
+    ensures { result_map_both (λ x. x.now) (λ e. e) result
+        ≡ or_fault (schema_fault text.now fields.now) (schema_of fields.now) }
 {
     let within = counted(fields);
     check_items(&FieldCheck { text }, within)?;

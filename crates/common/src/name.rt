@@ -1,6 +1,6 @@
 // A name is a part of a text of names: two names are equal by place or by bytes.
 ghost use Rattle.std.specs.Prelude.{◌≡◌, ◌+◌, ◌≤◌, length};
-ghost use Rattle.std.specs.Option.{option_map};
+ghost use Rattle.std.specs.Option.{option_copied};
 ghost use Rattle.std.specs.Str.{bytes_eq};
 ghost use Rattle.common.specs.Names.{Alike, is_name, name_bytes, same_name, bytes_at};
 
@@ -8,7 +8,7 @@ ghost use Rattle.common.specs.Names.{Alike, is_name, name_bytes, same_name, byte
 pub const TEXT_LIMIT: usize = 65_535;
 
 // A start and a length, as a caller gives them. They are a name of a text where they lie inside its first 65,535 bytes.
-#[derive(Clone, Copy)]
+#[derive(Clone, Copy, Debug)]
 pub struct Name {
     pub start: u32,
     pub len: u8,
@@ -41,7 +41,7 @@ impl Name {
 
     // The bytes of the name, where it is one of the text.
     pub fn bytes(self, text: &[u8]) -> Option<&[u8]>
-        ensures { option_map (λ x. x.now) result ≡ name_bytes text.now self }
+        ensures { option_copied result ≡ name_bytes text.now self }
     {
         if !self.is_in(text) {
             return None;

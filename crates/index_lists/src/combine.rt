@@ -1,6 +1,6 @@
 // One index list in the place of two that stand on one another.
 ghost use Rattle.std.specs.Prelude.{◌≡◌, length, Some};
-ghost use Rattle.std.specs.Option.{option_map};
+ghost use Rattle.std.specs.Option.{option_copied};
 ghost use Rattle.common.specs.Firsts.{or_fault};
 ghost use Rattle.index_lists.specs.Combine.{combine, combine_fault, counted, index_fault, output_after, read_by, room_fault};
 
@@ -29,7 +29,7 @@ impl ItemCheck for IndexCheck<'_> {
 // The indices as they are, over the front of the output; an output that is too short is refused.
 fn copy(indices: &[u32], out: &mut [u32]) -> Result<usize, Fault>
     ensures value { result ≡ or_fault (room_fault indices.now (length out.old)) (length indices.now) }
-    ensures after { out.new ≡ output_after (or_fault (room_fault indices.now (length out.old)) (Some indices.now)) out.old }
+    ensures after { out.new ≡ output_after (combine (Some indices.now) None (length out.old)) out.old }
 {
     let count = indices.len();
     if out.len() < count {
@@ -41,8 +41,9 @@ fn copy(indices: &[u32], out: &mut [u32]) -> Result<usize, Fault>
 
 // The lower list's entries at the upper list's indices, over the front of the output.
 fn look_up(upper: &[u32], lower: &[u32], out: &mut [u32]) -> Result<usize, Fault>
-    ensures value { result ≡ or_fault (combine_fault upper.now (Some lower.now) (length out.old)) (length upper.now) }
-    ensures after { out.new ≡ output_after (or_fault (combine_fault upper.now (Some lower.now) (length out.old)) (Some (read_by 0 lower.now upper.now))) out.old }
+    ensures value { result
+        ≡ or_fault (combine_fault upper.now (Some lower.now) (length out.old)) (length upper.now) }
+    ensures after { out.new ≡ output_after (combine (Some upper.now) (Some lower.now) (length out.old)) out.old }
 {
     check_items(&IndexCheck { lower }, upper)?;
     select(lower, 0, upper, out)
@@ -57,8 +58,11 @@ pub fn combine_projections(
     lower: Option<&[u32]>,
     out: &mut [u32],
 ) -> Result<Option<usize>, Fault>
-    ensures value { result ≡ counted (combine (option_map (λ x. x.now) upper.entry) (option_map (λ x. x.now) lower.entry) (length out.old)) }
-    ensures after { out.new ≡ output_after (combine (option_map (λ x. x.now) upper.entry) (option_map (λ x. x.now) lower.entry) (length out.old)) out.old }
+    ensures value { result
+        ≡ counted (combine (option_copied upper.entry) (option_copied lower.entry) (length out.old)) }
+    ensures after { out.new
+        ≡ output_after (combine (option_copied upper.entry) (option_copied lower.entry) (length out.old))
+        out.old }
 {
     let Some(upper) = upper else {
         return Ok(None);

@@ -35,7 +35,10 @@ pub fn select<T: Copy>(
     out: &mut [T],
 ) -> Result<usize, Fault>
     ensures value { result ≡ or_fault (room_fault indices.now (length out.old)) (length indices.now) }
-    ensures after { out.new ≡ output_after (or_fault (room_fault indices.now (length out.old)) (Some (read_by missing row.now indices.now))) out.old }
+    ensures after { out.new
+        ≡ output_after
+        (or_fault (room_fault indices.now (length out.old)) (Some (read_by missing row.now indices.now)))
+        out.old }
     ensures law { CombinedReads missing row.now indices.now }
 {
     if out.len() < indices.len() {

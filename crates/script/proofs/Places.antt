@@ -1,10 +1,12 @@
 -- The first place of a text where the bytes of a word stand.
 use Rattle.std.proofs.Common.{◌≡◌, ℕ, zero, suc, ◌-◌, ◌<◌, ◌≤◌, Bool, true, false, cond, not, List, [], ◌∷◌, length, get_or, take, drop, Some, None, Option, nat_eq, sym, refl, ap, ◌∙◌, arith}
-use Rattle.std.specs.List.{position_or_len, starts_with}
+use Rattle.std.specs.List.{position, position_or_len, starts_with}
 use Rattle.std.specs.Option.{MatchOption}
 use Rattle.std.proofs.lemmas.List.{take_rest}
-use Rattle.std.proofs.lemmas.List.Sums.{prefix_len_is}
-use Rattle.std.proofs.lemmas.Bool.{lt-ltb, le-ltb}
+use Rattle.std.proofs.lemmas.List.Sums.{prefix_len_is, prefix_len_passes}
+use Rattle.std.proofs.lemmas.List.Quantifiers.{position-Some}
+use Rattle.std.proofs.lemmas.Bool.{lt-ltb, le-ltb, ltb-false}
+use Rattle.common.specs.Firsts.{First}
 use Rattle.script.specs.Names.{place_of, stands_in, tails}
 
 pub length-tails : (text : List ℕ) → length (tails text) ≡ length text
@@ -15,6 +17,27 @@ tail_at : (text : List ℕ) (i : ℕ) (d : List ℕ) → i < length text → get
 tail_at [] i d h = absurd (omega arith)
 tail_at (b ∷ bs) zero d h = refl
 tail_at (b ∷ bs) (suc i) d h = tail_at bs i d (omega arith)
+
+-- ---- what a search says of the items
+
+none_passes : (b : Bool) (n : ℕ) → None ≡ cond b (Some n) None → b ≡ false
+none_passes true n e = cc
+none_passes false n e = refl
+
+fails : (b : Bool) → not b ≡ true → b ≡ false
+fails true e = cc
+fails false e = refl
+
+pub first_law : (test : List ℕ → Bool) (xs : List (List ℕ)) (r : Option ℕ) → r ≡ position test xs → First test xs r
+first_law test xs None e = λ k d h.
+    let n = position_or_len test xs in
+    let all : length xs ≤ n = ltb-false n (length xs) (none_passes _ n e) in
+    fails (test (get_or xs k d)) (prefix_len_passes (λ x. not (test x)) xs k d (omega arith))
+first_law test xs (Some i) e =
+    let at = λ (d : List ℕ). position-Some test xs i d (sym e) in
+    ((at []).0, λ d. (at d).1, λ k d h. (at d).2 k h)
+
+-- ---- the places of a text
 
 -- What `starts_with` answers of what is left from i on.
 pub stands_at : (text word : List ℕ) (i : ℕ) (r : Bool) → r ≡ starts_with nat_eq (take (length text - i) (drop i text)) word → stands_in word (drop i text) ≡ r

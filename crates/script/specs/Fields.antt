@@ -1,5 +1,5 @@
 -- A field, word by word.
-use Rattle.std.specs.Prelude.{ℕ, Bool, cond, List, [], ◌∷◌, drop, Ok, Err, codes, Result}
+use Rattle.std.specs.Prelude.{if◌then◌else◌, ℕ, Bool, List, [], ◌∷◌, drop, Ok, Err, codes, Result}
 use Rattle.std.specs.Str.{bytes_eq}
 use Rattle.common.specs.declared.field.Field.{Field}
 use Rattle.common.specs.declared.name.Name.{Name}
@@ -16,12 +16,12 @@ null_of ws = comes_next (codes "null") ws
 
 -- The words after it.
 abbrev pub after_null : List (List ℕ) → List (List ℕ)
-after_null ws = cond (null_of ws) (drop 1 ws) ws
+after_null ws = if null_of ws then drop 1 ws else ws
 
 -- The tag of a field is 0, unless the word `tag` and a number come last.
 abbrev pub tag_of : List (List ℕ) → Result ℕ Malformed
 tag_of [] = Ok 0
-tag_of (w ∷ ws) = cond (bytes_eq w (codes "tag")) (last_number ws) (Err ExtraWord)
+tag_of (w ∷ ws) = if bytes_eq w (codes "tag") then last_number ws else Err ExtraWord
 
 -- The end of a field: the word `null` where it may be null, and its tag.
 abbrev pub field_end : Name → ℕ → List (List ℕ) → Result Field Malformed

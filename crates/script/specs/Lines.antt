@@ -1,5 +1,5 @@
 -- What a line of a script says.
-use Rattle.std.specs.Prelude.{ℕ, ◌-◌, true, cond, List, [], ◌∷◌, length, take, drop, Ok, vec_items, Option, Result, ◌==◌, slice_index}
+use Rattle.std.specs.Prelude.{if◌then◌else◌, ℕ, ◌-◌, true, List, [], ◌∷◌, length, take, drop, Ok, vec_items, Option, Result, ◌==◌, slice_index}
 use Rattle.std.specs.Option.{option_map}
 use Rattle.common.specs.declared.field.Field.{Field}
 use Rattle.common.specs.declared.name.Name.{Name}
@@ -40,7 +40,7 @@ said (parsed.Combine l n) = says_combine (option_map vec_items l) n
 
 -- A carriage return that ends the line is left out.
 abbrev pub without_return : List ℕ → List ℕ
-without_return bs = cond (slice_index bs (length bs - 1) == 13) (take (length bs - 1) bs) bs
+without_return bs = if slice_index bs (length bs - 1) == 13 then take (length bs - 1) bs else bs
 
 -- The text that follows its keyword, after one blank.
 abbrev pub text_of : List ℕ → List ℕ
@@ -71,7 +71,7 @@ keyword_says text rest keyword.Combine = combine_of (words_of rest)
 -- A line with no word says nothing, and neither does one that begins with #.
 abbrev pub words_say : List ℕ → List ℕ → List (List ℕ) → Result Said Malformed
 words_say text rest [] = Ok says_nothing
-words_say text rest (w ∷ ws) = cond (begins_with 35 w) (Ok says_nothing) (and_then (keyword_of w) (keyword_says text rest))
+words_say text rest (w ∷ ws) = if begins_with 35 w then Ok says_nothing else and_then (keyword_of w) (keyword_says text rest)
 
 -- What a line says over a text of names.
 abbrev pub line_of : List ℕ → List ℕ → Result Said Malformed

@@ -1,5 +1,5 @@
 -- Lists of numbers, word by word.
-use Rattle.std.specs.Prelude.{◌≡◌, ℕ, ◌^◌, Bool, cond, ◌&&◌, List, [], ◌∷◌, Some, None, Ok, codes, Option, Result}
+use Rattle.std.specs.Prelude.{if◌then◌else◌, ◌≡◌, ℕ, ◌^◌, Bool, ◌&&◌, List, [], ◌∷◌, Some, None, Ok, codes, Option, Result}
 use Rattle.std.specs.Borrow.{Bor}
 use Rattle.std.specs.Iterator.{YieldsFirstRef}
 use Rattle.std.specs.Str.{bytes_eq}
@@ -14,12 +14,12 @@ stops into w = into && bytes_eq w (codes "into")
 -- The words of a list, up to where it ends.
 abbrev pub list_words : Bool → List (List ℕ) → List (List ℕ)
 list_words into [] = []
-list_words into (w ∷ ws) = cond (stops into w) [] (w ∷ list_words into ws)
+list_words into (w ∷ ws) = if stops into w then [] else (w ∷ list_words into ws)
 
 -- The words from there on.
 abbrev pub after_list : Bool → List (List ℕ) → List (List ℕ)
 after_list into [] = []
-after_list into (w ∷ ws) = cond (stops into w) (w ∷ ws) (after_list into ws)
+after_list into (w ∷ ws) = if stops into w then w ∷ ws else after_list into ws
 
 -- The words of a list that are still to come, and the words from its end on.
 pub record ListParts : Type 0 where
@@ -43,7 +43,7 @@ numbers_of (w ∷ ws) = and_then (number_below (2 ^ 32) w) (λ n. and_then (numb
 -- An index list is the word `absent` alone, or numbers.
 abbrev pub list_of : List (List ℕ) → Result (Option (List ℕ)) Malformed
 list_of [] = Ok (Some [])
-list_of (w ∷ ws) = cond (bytes_eq w (codes "absent")) (alone None ws) (and_then (numbers_of (w ∷ ws)) (λ ns. Ok (Some ns)))
+list_of (w ∷ ws) = if bytes_eq w (codes "absent") then alone None ws else and_then (numbers_of (w ∷ ws)) (λ ns. Ok (Some ns))
 
 -- What follows a list is nothing, or the word `into` and a number.
 abbrev pub room_of : List (List ℕ) → Result (Option ℕ) Malformed

@@ -1,5 +1,5 @@
 -- The words for names.
-use Rattle.std.specs.Prelude.{ℕ, ◌+◌, ◌^◌, Bool, cond, ◌&&◌, List, [], ◌∷◌, length, take, drop, position, Some, None, Ok, Err, Option, Result, nat_eq, nat_lt}
+use Rattle.std.specs.Prelude.{if◌then◌else◌, ℕ, ◌+◌, ◌^◌, Bool, ◌&&◌, List, [], ◌∷◌, length, take, drop, position, Some, None, Ok, Err, Option, Result, nat_eq, nat_lt}
 use Rattle.std.specs.Str.{bytes_eq}
 use Rattle.common.specs.declared.name.Name.{Name}
 use Rattle.script.specs.declared.line.Malformed.{Malformed}
@@ -27,7 +27,7 @@ name_from s n = record { start = s; len = n }
 -- The name at a place, which has a start of 32 bits and at most 255 bytes.
 abbrev pub name_at : Option ℕ → ℕ → Result Name Malformed
 name_at None n = Err NotInText
-name_at (Some s) n = cond (nat_lt s (2 ^ 32) && nat_lt n 256) (Ok (name_from s n)) (Err NotInText)
+name_at (Some s) n = if nat_lt s (2 ^ 32) && nat_lt n 256 then Ok (name_from s n) else Err NotInText
 
 -- Two numbers with a colon between them, at i.
 abbrev pub name_split : Option ℕ → List ℕ → Result Name Malformed
@@ -40,4 +40,4 @@ name_given w = name_split (position (λ b. nat_eq b 58) w) w
 
 -- The name that a word stands for: after an @ its start and length, and else where the word stands in the text.
 abbrev pub name_of : List ℕ → List ℕ → Result Name Malformed
-name_of text w = cond (begins_with 64 w) (name_given (drop 1 w)) (name_at (place_of text w) (length w))
+name_of text w = if begins_with 64 w then name_given (drop 1 w) else name_at (place_of text w) (length w)

@@ -1,5 +1,5 @@
 -- The numbers that words write.
-use Rattle.std.specs.Prelude.{ℕ, ◌+◌, ◌-◌, ◌*◌, ◌^◌, Bool, cond, ◌&&◌, List, map, length, Ok, Err, Result, nat_lt}
+use Rattle.std.specs.Prelude.{if◌then◌else◌, ℕ, ◌+◌, ◌-◌, ◌*◌, ◌^◌, Bool, ◌&&◌, List, map, length, Ok, Err, Result, nat_lt}
 use Rattle.std.specs.Char.{is_ascii_digit}
 use Rattle.std.specs.Int.Digits.{number_from_digits}
 use Rattle.std.specs.Str.{all_ascii_digits}
@@ -17,7 +17,7 @@ is_number limit w = nat_lt 0 (length w) && (all_ascii_digits w && nat_lt (decima
 
 -- The number that a word writes.
 abbrev pub number_below : ℕ → List ℕ → Result ℕ Malformed
-number_below limit w = cond (is_number limit w) (Ok (decimal w)) (Err NotANumber)
+number_below limit w = if is_number limit w then Ok (decimal w) else Err NotANumber
 
 -- A number is needed, and nothing may follow it.
 abbrev pub last_number : List (List ℕ) → Result ℕ Malformed
@@ -25,4 +25,5 @@ last_number ws = and_then (only_word ws) (number_below (2 ^ 32))
 
 -- A number with one more digit after it, where that has 32 bits.
 abbrev pub more_digit : ℕ → ℕ → Result ℕ Malformed
-more_digit n c = cond (is_ascii_digit c && nat_lt (n * 10 + (c - 48)) (2 ^ 32)) (Ok (n * 10 + (c - 48))) (Err NotANumber)
+more_digit n c =
+    if is_ascii_digit c && nat_lt (n * 10 + (c - 48)) (2 ^ 32) then Ok (n * 10 + (c - 48)) else Err NotANumber

@@ -1,5 +1,5 @@
 -- The words of a line.
-use Rattle.std.specs.Prelude.{◌≡◌, ℕ, Bool, true, false, cond, not, ◌||◌, List, [], ◌∷◌, ◌++◌, take, drop, Some, None, Ok, Err, Option, Result, ◌==◌}
+use Rattle.std.specs.Prelude.{if◌then◌else◌, ◌≡◌, ℕ, Bool, true, false, not, ◌||◌, List, [], ◌∷◌, ◌++◌, take, drop, Some, None, Ok, Err, Option, Result, ◌==◌}
 use Rattle.std.specs.Borrow.{Bor}
 use Rattle.std.specs.List.{prefix_len}
 use Rattle.std.specs.Str.{bytes_eq}
@@ -27,7 +27,7 @@ closed (b ∷ bs) ws = (b ∷ bs) ∷ ws
 -- The words of what is left of a line, after the bytes of a word that has begun: a blank closes the word.
 abbrev pub words_after : List ℕ → List ℕ → List (List ℕ)
 words_after w [] = closed w []
-words_after w (b ∷ bs) = cond (blank b) (closed w (words_after [] bs)) (words_after (w ++ b ∷ []) bs)
+words_after w (b ∷ bs) = if blank b then closed w (words_after [] bs) else words_after (w ++ b ∷ []) bs
 
 -- The words of a line, its longest runs of bytes that are not blank.
 abbrev pub words_of : List ℕ → List (List ℕ)

@@ -1,21 +1,13 @@
 // A field, word by word.
 ghost use Rattle.std.specs.Prelude.{◌≡◌};
-ghost use Rattle.script.specs.Fields.{after_null, field_end, field_of, field_typed, null_of, tag_of};
+ghost use Rattle.script.specs.Fields.{field_of, tag_of};
 
 use crate::line::Malformed;
 use crate::names::name;
 use crate::number::last_number;
 use crate::types::type_number;
 use crate::words::Words;
-use common::{Field, Name};
-
-// Whether the word `null` comes next, which is then taken.
-fn takes_null(words: &mut Words<'_>) -> bool
-    ensures nullable { result ≡ null_of words.old }
-    ensures rest { words.new ≡ after_null words.old }
-{
-    words.take_if(b"null")
-}
+use common::Field;
 
 // The tag at the end of a field.
 fn last_tag(mut words: Words<'_>) -> Result<u32, Malformed>
@@ -28,11 +20,13 @@ fn last_tag(mut words: Words<'_>) -> Result<u32, Malformed>
     }
 }
 
-// A field of that name and type, and what follows them.
-fn field_end(name: Name, data_type: u8, mut words: Words<'_>) -> Result<Field, Malformed>
-    ensures { result ≡ field_end name data_type words.entry }
+// The field that the words write: its name, its type, and what it may be besides.
+pub(crate) fn read_field(text: &[u8], mut words: Words<'_>) -> Result<Field, Malformed>
+    ensures { result ≡ field_of text.now words.entry }
 {
-    let nullable = takes_null(&mut words);
+    let name = name(text, words.need()?)?;
+    let data_type = type_number(words.need()?)?;
+    let nullable = words.take_if(b"null");
     let tag = last_tag(words)?;
     Ok(Field {
         name,
@@ -40,20 +34,4 @@ fn field_end(name: Name, data_type: u8, mut words: Words<'_>) -> Result<Field, M
         nullable,
         tag,
     })
-}
-
-// A field of that name, and what follows it.
-fn typed_field(name: Name, mut words: Words<'_>) -> Result<Field, Malformed>
-    ensures { result ≡ field_typed name words.entry }
-{
-    let data_type = type_number(words.need()?)?;
-    field_end(name, data_type, words)
-}
-
-// The field that the line writes.
-pub(crate) fn read_field(text: &[u8], mut words: Words<'_>) -> Result<Field, Malformed>
-    ensures { result ≡ field_of text.now words.entry }
-{
-    let name = name(text, words.need()?)?;
-    typed_field(name, words)
 }

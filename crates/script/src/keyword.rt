@@ -5,7 +5,7 @@ ghost use Rattle.script.specs.Keywords.{keyword_of};
 use crate::line::Malformed;
 
 // What a line begins with says what it asks for.
-#[derive(Clone, Copy)]
+#[derive(Clone, Copy, PartialEq, Eq, Debug)]
 pub(crate) enum Keyword {
     Help,
     Text,

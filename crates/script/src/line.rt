@@ -6,7 +6,7 @@ use common::{Field, Name, Trouble};
 use thiserror::Error;
 
 // A line that was read. An index list that is `None` is absent.
-#[derive(Drop)]
+#[derive(Debug, Drop)]
 pub enum Line {
     Blank,
     Help,

@@ -1,6 +1,7 @@
 // The words for names.
 ghost use Rattle.std.specs.Prelude.{◌≡◌, length, nat_eq, position};
-ghost use Rattle.script.specs.Names.{name_at, name_given, name_of, place_of};
+ghost use Rattle.common.specs.Firsts.{First};
+ghost use Rattle.script.specs.Names.{name_at, name_given, name_of, place_of, stands_in, tails};
 
 use crate::line::Malformed;
 use crate::number::{number, small_number};
@@ -8,14 +9,16 @@ use common::Name;
 
 // The first place of the text where the bytes of the word stand.
 fn find_in(text: &[u8], word: &[u8]) -> Option<usize>
-    ensures { result ≡ place_of text.now word.now }
+    ensures value { result ≡ place_of text.now word.now }
+    ensures law { First (stands_in word.now) (tails text.now) result }
 {
     (0..text.len()).find(|place| text[*place..].starts_with(word))
 }
 
 // The place of the first colon.
 fn find_colon(word: &[u8]) -> Option<usize>
-    ensures { result ≡ position (λ b. nat_eq b 58) word.now }
+    ensures value { result ≡ position (λ b. nat_eq b 58) word.now }
+    ensures law { First (λ b. nat_eq b 58) word.now result }
 {
     word.iter().position(|byte| *byte == b':')
 }

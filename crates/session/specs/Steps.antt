@@ -1,5 +1,5 @@
 -- What a line of a script does.
-use Rattle.std.specs.Prelude.{cond, length, is_ok, Ok, Err, Result}
+use Rattle.std.specs.Prelude.{if◌then◌else◌, length, is_ok, Ok, Err, Result}
 use Rattle.std.specs.Option.{option_map}
 use Rattle.std.specs.Result.{result_map_both}
 use Rattle.common.specs.declared.refusal.Fault.{Fault}
@@ -34,7 +34,7 @@ view_after v (says_combine u room) = with_beneath v (standing (combine_on v u ro
 
 -- A refused line changes nothing.
 abbrev pub stepped : View → Said → View
-stepped v s = cond (is_ok (answer_to v s)) (view_after v s) v
+stepped v s = if is_ok (answer_to v s) then view_after v s else v
 
 -- Neither does a line that is none.
 abbrev pub stepped_by : View → Result Said Malformed → View

@@ -1,6 +1,6 @@
 // The columns that the standing list picks.
 ghost use Rattle.std.specs.Prelude.{◌≡◌, map, IfOk, Some, None, Ok, vec_items};
-ghost use Rattle.std.specs.Option.{option_map};
+ghost use Rattle.std.specs.Option.{option_copied};
 ghost use Rattle.common.specs.Troubles.{Agrees};
 ghost use Rattle.index_lists.specs.Combine.{read_by, read_by_any};
 ghost use Rattle.session.specs.Sessions.{columns_of};
@@ -36,7 +36,7 @@ fn pick(
     row: Vec<Option<Field>>,
     indices: Option<&[u32]>,
 ) -> Result<Vec<Option<Field>>, Trouble<Fault>>
-    ensures { Agrees vec_items (Ok (read_by_any None row.items (option_map (λ x. x.now) indices.entry))) result }
+    ensures { Agrees vec_items (Ok (read_by_any None row.items (option_copied indices.entry))) result }
 {
     match indices {
         Some(indices) => select_from(heap, &row, indices),

@@ -1,6 +1,6 @@
 // The text, the fields and the index list that stand, and the calls on them.
 ghost use Rattle.std.specs.Prelude.{◌≡◌, [], length, is_ok, if◌then◌else◌, Ok, vec_items};
-ghost use Rattle.std.specs.Option.{option_map};
+ghost use Rattle.std.specs.Option.{option_copied, option_map};
 ghost use Rattle.std.specs.Result.{result_map_both};
 ghost use Rattle.common.specs.Firsts.{or_fault};
 ghost use Rattle.common.specs.Schemas.{schema_fault, schema_of};
@@ -24,12 +24,16 @@ pub struct Session {
 
 impl Model for Session {
     ghost use Rattle.std.specs.Prelude.{vec_items};
-    ghost use Rattle.std.specs.Option.{option_map};
+    ghost use Rattle.std.specs.Option.{option_copied, option_map};
     ghost use Rattle.session.specs.Sessions.{View};
 
     ghost Value = { View };
 
-    ghost view = { λ s. record { text = vec_items s.text; fields = vec_items s.fields; beneath = option_map vec_items s.beneath } };
+    ghost view = { λ s. record {
+      text = vec_items s.text;
+      fields = vec_items s.fields;
+      beneath = option_map vec_items s.beneath;
+    } };
 }
 
 impl Session {
@@ -60,7 +64,7 @@ impl Session {
 
     // The list that the next one is to stand on.
     pub fn beneath(&self) -> Option<&[u32]>
-        ensures { option_map (λ x. x.now) result ≡ self.now.beneath }
+        ensures { option_copied result ≡ self.now.beneath }
     {
         self.beneath.as_deref()
     }
@@ -86,7 +90,8 @@ impl Session {
 
     // The schema that the fields are.
     pub(crate) fn schema(&self) -> Result<&[Field], Fault>
-        ensures { result_map_both (λ x. x.now) (λ e. e) result ≡ or_fault (schema_fault self.now.text self.now.fields) (schema_of self.now.fields) }
+        ensures { result_map_both (λ x. x.now) (λ e. e) result
+            ≡ or_fault (schema_fault self.now.text self.now.fields) (schema_of self.now.fields) }
     {
         schema(self.text(), self.fields())
     }
@@ -121,7 +126,11 @@ impl Session {
         room: Option<u32>,
     ) -> Result<Option<usize>, Trouble<Fault>>
         ensures value { Answers (counted (combine_on self.old (option_map vec_items upper) room)) result }
-        ensures after { self.new ≡ (if is_ok result then with_beneath self.old (standing (combine_on self.old (option_map vec_items upper) room) self.old.beneath) else self.old) }
+        ensures after { self.new
+            ≡ (if is_ok result
+            then with_beneath self.old
+            (standing (combine_on self.old (option_map vec_items upper) room) self.old.beneath)
+            else self.old) }
     {
         let list = combined(heap, upper.as_deref(), self.beneath(), room)?;
         let count = count_of(&list);
@@ -137,7 +146,10 @@ fn combined(
     lower: Option<&[u32]>,
     room: Option<u32>,
 ) -> Result<Option<Vec<u32>>, Trouble<Fault>>
-    ensures { Agrees (option_map vec_items) (combine (option_map (λ x. x.now) upper.entry) (option_map (λ x. x.now) lower.entry) (room_for (option_map (λ x. x.now) upper.entry) room)) result }
+    ensures { Agrees (option_map vec_items)
+        (combine (option_copied upper.entry) (option_copied lower.entry)
+        (room_for (option_copied upper.entry) room))
+        result }
 {
     let mut out = vec![in heap; 0; room_for(upper, room)]?;
     let Some(count) = combine_projections(upper, lower, &mut out)? else {
@@ -149,7 +161,7 @@ fn combined(
 
 // How long the output list is to be.
 fn room_for(upper: Option<&[u32]>, room: Option<u32>) -> usize
-    ensures { result ≡ room_for (option_map (λ x. x.now) upper.entry) room }
+    ensures { result ≡ room_for (option_copied upper.entry) room }
 {
     let longest = upper.map_or(0, |list| list.len());
     room.map_or(longest, |given| longest.min(given as usize))
