@@ -13,7 +13,8 @@ use crate::refusal::{Fault, Refusal};
 pub const SCHEMA_LIMIT: usize = 65_535;
 
 // A column's name, the number of its type, whether it may be null, and a tag that stands for its metadata, 0 for none.
-// The name and the type are what the caller gave: `schema` refuses those that are none.
+// The name, the type and the tag are the numbers that the caller gave, which the product's rules ask for: any can be given,
+// `schema` refuses a name or a type that is none at the field's place, and tags differ by their number alone.
 #[derive(Clone, Copy, Debug)]
 pub struct Field {
     pub name: Name,

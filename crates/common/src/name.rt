@@ -8,6 +8,8 @@ ghost use Rattle.common.specs.Names.{Alike, is_name, name_bytes, same_name, byte
 pub const TEXT_LIMIT: usize = 65_535;
 
 // A start and a length, as a caller gives them. They are a name of a text where they lie inside its first 65,535 bytes.
+// They are no slice, since the product's rules let a caller give any pair, and refuse one that is no name. There is no `==`
+// either: names are equal over their text alone.
 #[derive(Clone, Copy, Debug)]
 pub struct Name {
     pub start: u32,
@@ -53,6 +55,7 @@ impl Name {
         ensures value { result ≡ same_name text.now self other }
         ensures law { Alike text.now self other result }
     {
+        // One pair is one name: compared here, since `Name` is to have no `==`.
         if self.start == other.start && self.len == other.len {
             return true;
         }

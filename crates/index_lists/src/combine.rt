@@ -52,7 +52,7 @@ fn look_up(upper: &[u32], lower: &[u32], out: &mut [u32]) -> Result<usize, Fault
 // The columns of the upper list, taken through the lower one, over the front of the output; the answer says how many, or
 // that the list is absent. An absent upper list is absent, whatever is beneath it; over an absent lower list the upper
 // list stays as it is. Refused, at the first index past the lower list's end or for an output that is too short, the
-// output is as before.
+// output is as before. The output is the caller's, since by the product's rules the call wants no memory.
 pub fn combine_projections(
     upper: Option<&[u32]>,
     lower: Option<&[u32]>,

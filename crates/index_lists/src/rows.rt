@@ -17,13 +17,15 @@ fn select_into<T: Copy>(row: &[T], missing: T, indices: &[u32], out: &mut [T])
     requires { length indices.now ≤ length out.old }
     ensures { out.new ≡ read_by missing row.now indices.now ++ drop (length indices.now) out.old }
 {
+    // By the place: after a loop over `out.iter_mut().zip(indices)` nothing is known of the output.
     for (place, index) in indices.iter().enumerate() {
         out[place] = cell_at(row, *index as usize, missing);
     }
 }
 
 // What a row gives by a list of indices, written over the front of the output: the row's cell at each index, and `missing`
-// for an index past the row's end. The answer is how many cells were written; an output that is too short is refused.
+// for an index past the row's end. The answer is how many cells were written; an output that is too short is refused. It is
+// the caller's, since by the product's rules the call wants no memory.
 //
 // The law: where the indices are the combination of an upper list and one beneath it, the cells are those that the upper
 // list gives on the row that the lower list gives.

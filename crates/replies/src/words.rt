@@ -41,7 +41,7 @@ fn show_list(heap: Global, session: &Session) -> Result<String, AllocError> {
     }
 }
 
-// An answer, in words.
+// An answer, in words. A `match`: the answers are these, and each has a sentence of its own.
 fn show_answer(heap: Global, session: &Session, answer: Answer) -> Result<String, AllocError> {
     match answer {
         Answer::Nothing => Ok(String::new(heap)),

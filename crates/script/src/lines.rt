@@ -57,7 +57,7 @@ fn read_combine(heap: Global, words: Words<'_>) -> Result<Line, ParseError>
     Ok(Line::Combine { upper, room })
 }
 
-// What the keyword asks for, with the rest of its line.
+// What the keyword asks for, with the rest of its line. A `match`: the keywords are these, and each has steps of its own.
 fn keyword_line(
     heap: Global,
     text: &[u8],

@@ -12,7 +12,8 @@ use crate::words::Words;
 use std::alloc::Global;
 use std::marker::Model;
 
-// The words of a list that are still to come, and what follows the list: it may end at the word `into`.
+// The words of a list that are still to come, and what follows the list: it may end at the word `into`. A flag says so,
+// since there are these two ends alone, each with its constructor.
 #[derive(Clone, Drop)]
 pub(crate) struct ListWords<'a> {
     words: Words<'a>,
@@ -69,7 +70,7 @@ impl<'a> ListWords<'a> {
         self.words.take_if(b"absent")
     }
 
-    // The list has ended.
+    // The list has ended. Beside `Words::end`, since one for every iterator would have to speak of its steps.
     fn end(&mut self) -> Result<(), Malformed>
         ensures value { result ≡ alone tt self.old.left }
         ensures rest { OnOk result (IsEnded self.old self.new) }
@@ -95,6 +96,7 @@ fn numbers(heap: Global, list: &mut ListWords<'_>) -> Result<Vec<u32>, ParseErro
     ensures rest { OnOk result (IsEnded list.old list.new) }
 {
     let mut numbers = Vec::new(heap);
+    // No `for`: after one over `list.by_ref()` nothing is known of the list.
     while let Some(word) = list.next() {
         numbers.push(number(word)?)?;
     }

@@ -21,7 +21,8 @@ fn named_type(word: &[u8]) -> Option<DataType>
     }
 }
 
-// The number of the type that the word stands for.
+// The number of the type that the word stands for: a number and no type, since by the product's rules `schema` is to refuse
+// one that is none, at its field's place.
 pub(crate) fn type_number(word: &[u8]) -> Result<u8, Malformed>
     ensures { result ≡ type_number_of word.now }
 {

@@ -23,7 +23,8 @@ fn blanks(line: &[u8]) -> usize
     line.iter().take_while(|byte| is_blank(**byte)).count()
 }
 
-// How many bytes that are not blank the line begins with.
+// How many bytes that are not blank the line begins with. Beside `blanks`, since one function over a closure could not say
+// which bytes it counts: a contract names what a closure answers, and not by which rule.
 fn word_length(line: &[u8]) -> usize
     ensures value { result ≡ run_length false line.now }
     ensures within { result ≤ length line.now }

@@ -11,7 +11,8 @@ use script::Line;
 use std::alloc::Global;
 
 impl Session {
-    // Does what the line says. Refused, or where memory runs out, everything is as before.
+    // Does what the line says. Refused, or where memory runs out, everything is as before. A `match`: the lines are these, and
+    // each has a call of its own.
     pub fn perform(&mut self, heap: Global, line: Line) -> Result<Answer, Trouble<Fault>>
         ensures value { Answers (answer_to self.old (said line)) result }
         ensures after { self.new ≡ (if is_ok result then view_after self.old (said line) else self.old) }

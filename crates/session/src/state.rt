@@ -139,7 +139,8 @@ impl Session {
     }
 }
 
-// An upper list over a lower one, by an output list of so much room.
+// An upper list over a lower one, by an output list of so much room, which is cut to the answer: `combine_projections` writes
+// into a list of its caller's. The upper list and the room are the two parts of `Line::Combine`, taken apart once.
 fn combined(
     heap: Global,
     upper: Option<&[u32]>,
