@@ -4,11 +4,12 @@ ghost use Rattle.std.specs.Iterator.{item_count};
 ghost use Rattle.std.specs.Option.{option_map};
 ghost use Rattle.common.specs.Troubles.{Agrees};
 ghost use Rattle.script.specs.Lists.{after_list, list_of, list_words, numbers_of, room_of, IsEnded, NextOfList};
-ghost use Rattle.script.specs.Words.{alone, comes_next};
+ghost use Rattle.script.specs.Words.{comes_next};
 
 use crate::line::{Malformed, ParseError};
 use crate::number::{last_number, number};
 use crate::words::Words;
+use common::Trouble;
 use std::alloc::Global;
 use std::marker::Model;
 
@@ -70,17 +71,6 @@ impl<'a> ListWords<'a> {
         self.words.take_if(b"absent")
     }
 
-    // The list has ended. Beside `Words::end`, since one for every iterator would have to speak of its steps.
-    fn end(&mut self) -> Result<(), Malformed>
-        ensures value { result ≡ alone tt self.old.left }
-        ensures rest { OnOk result (IsEnded self.old self.new) }
-    {
-        match self.next() {
-            Some(_) => Err(Malformed::ExtraWord),
-            None => Ok(()),
-        }
-    }
-
     // What follows the list, once it has ended.
     #[tactic(auto, using(crate::proofs::Gathers::all_after))]
     pub(crate) fn rest(self) -> Words<'a>
@@ -112,7 +102,9 @@ pub(crate) fn index_list(
     ensures rest { OnOk result (IsEnded list.old list.new) }
 {
     if list.takes_absent() {
-        list.end()?;
+        if list.next().is_some() {
+            return Err(Trouble::Refused(Malformed::ExtraWord));
+        }
         return Ok(None);
     }
     Ok(Some(numbers(heap, list)?))

@@ -6,7 +6,7 @@ use crate::line::Malformed;
 use crate::number::small_number;
 use common::DataType;
 
-// The type that the word names.
+// The type that the word names. No `TryFrom`: neither that trait nor `DataType` is this crate's own.
 fn named_type(word: &[u8]) -> Option<DataType>
     ensures { result ≡ type_named word.now }
 {
