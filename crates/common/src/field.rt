@@ -1,6 +1,6 @@
 // Fields and schemas, as callers give them.
 ghost use Rattle.std.specs.Prelude.{◌≡◌, position};
-ghost use Rattle.std.specs.Result.{result_map_both};
+ghost use Rattle.common.specs.Results.{ok_copied};
 ghost use Rattle.common.specs.Firsts.{First, or_fault};
 ghost use Rattle.common.specs.Schemas.{field_fault, has_name, schema_fault, schema_of};
 
@@ -54,8 +54,7 @@ fn counted(fields: &[Field]) -> &[Field]
 // The schema that a list of fields is: its first 65,535. The first field with something wrong refuses it, by its name
 // before its type.
 pub fn schema<'a>(text: &[u8], fields: &'a [Field]) -> Result<&'a [Field], Fault>
-    ensures { result_map_both (λ x. x.now) (λ e. e) result
-        ≡ or_fault (schema_fault text.now fields.now) (schema_of fields.now) }
+    ensures { ok_copied result ≡ or_fault (schema_fault text.now fields.now) (schema_of fields.now) }
 {
     let within = counted(fields);
     check_items(&FieldCheck { text }, within)?;

@@ -1,7 +1,7 @@
 // A line is taken apart word by word.
 ghost use Rattle.std.specs.Prelude.{◌≡◌, true, false, ◌∷◌, [], ◌≤◌, length, drop, if◌then◌else◌, IfOk, IfErr};
 ghost use Rattle.std.specs.Iterator.{YieldsFirstRef, item_count};
-ghost use Rattle.std.specs.Result.{result_map_both};
+ghost use Rattle.common.specs.Results.{ok_copied};
 ghost use Rattle.script.specs.declared.line.Malformed.TheVariants.{MissingWord};
 ghost use Rattle.script.specs.Words.{alone, blank, comes_next, only_word, run_length, Split, words_of};
 
@@ -122,7 +122,7 @@ impl<'a> Words<'a> {
 
     // The one word that is left.
     pub(crate) fn only(mut self) -> Result<&'a [u8], Malformed>
-        ensures { result_map_both (λ x. x.now) (λ e. e) result ≡ only_word self.entry }
+        ensures { ok_copied result ≡ only_word self.entry }
     {
         let word = self.need()?;
         self.end()?;

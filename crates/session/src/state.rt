@@ -1,7 +1,7 @@
 // The text, the fields and the index list that stand, and the calls on them.
 ghost use Rattle.std.specs.Prelude.{◌≡◌, [], length, is_ok, if◌then◌else◌, Ok, vec_items};
 ghost use Rattle.std.specs.Option.{option_copied, option_map};
-ghost use Rattle.std.specs.Result.{result_map_both};
+ghost use Rattle.common.specs.Results.{ok_copied};
 ghost use Rattle.common.specs.Firsts.{or_fault};
 ghost use Rattle.common.specs.Schemas.{schema_fault, schema_of};
 ghost use Rattle.common.specs.Troubles.{Agrees};
@@ -90,7 +90,7 @@ impl Session {
 
     // The schema that the fields are.
     pub(crate) fn schema(&self) -> Result<&[Field], Fault>
-        ensures { result_map_both (λ x. x.now) (λ e. e) result
+        ensures { ok_copied result
             ≡ or_fault (schema_fault self.now.text self.now.fields) (schema_of self.now.fields) }
     {
         schema(self.text(), self.fields())
