@@ -1,5 +1,5 @@
--- The first fault of a list, and what it says that an item is the first that passes a test. A check `and then` another is
--- `option_or`: the fault of the first that finds one.
+-- The first fault of a list, and what it says of an item that it is the first to pass a test. Where one check follows another,
+-- the fault is the first one found: `option_or`.
 use Rattle.std.specs.Prelude.{if◌then◌else◌, ◌≡◌, ℕ, ◌+◌, ◌<◌, Bool, true, false, List, [], ◌∷◌, length, Some, None, Ok, Err, Option, Result, slice_index_or}
 use Rattle.std.specs.Option.{option_or}
 use Rattle.common.specs.declared.refusal.Fault.{Fault}

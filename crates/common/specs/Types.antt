@@ -1,5 +1,6 @@
 -- The six types and what they hold.
-use Rattle.std.specs.Prelude.{if◌then◌else◌, ℕ, ◌-◌, ◌^◌, Bool, true, false, ◌&&◌, ℤ, pos, negsuc, Some, None, Option, ◌==◌, int_le}
+use Rattle.std.specs.Prelude.{if◌then◌else◌, ℕ, ◌-◌, ◌^◌, Bool, true, false, ◌&&◌, ℤ, pos, negsuc, Some, None, List, codes, Option, ◌==◌, int_le}
+use Rattle.std.specs.Str.{bytes_eq}
 use Rattle.common.specs.declared.data_type.DataType.{DataType}
 use Rattle.common.specs.declared.data_type.DataType.TheVariants.{Int8, Int16, Int32, Int64, Boolean, Utf8}
 use Rattle.common.specs.declared.data_type.UnknownType.{UnknownType}
@@ -26,9 +27,20 @@ type_of n =
     else (if n == 6 then Some Utf8
     else None)))))
 
--- What stands in a type's place for a number of none.
-abbrev pub unknown_type : ℕ → UnknownType
-unknown_type n = record { 0 = n }
+-- The type that a word names.
+abbrev pub type_named : List ℕ → Option DataType
+type_named w =
+    if bytes_eq w (codes "Int8") then Some Int8
+    else (if bytes_eq w (codes "Int16") then Some Int16
+    else (if bytes_eq w (codes "Int32") then Some Int32
+    else (if bytes_eq w (codes "Int64") then Some Int64
+    else (if bytes_eq w (codes "Boolean") then Some Boolean
+    else (if bytes_eq w (codes "Utf8") then Some Utf8
+    else None)))))
+
+-- What stands in a type's place where there is none.
+abbrev pub unknown_type : UnknownType
+unknown_type = record {}
 
 -- A number of so many bits, with a sign: from -2^(bits-1) to 2^(bits-1)-1.
 abbrev pub signed_bits : ℕ → ℤ → Bool

@@ -6,7 +6,8 @@ ghost use Rattle.common.specs.Firsts.{Earliest, first_fault, or_fault};
 
 use crate::refusal::Fault;
 
-// What each item of a list has to pass, told the item's place.
+// What each item of a list has to pass, told the item's place. A trait and no closure: its ghost member says which fault an
+// item has, so that the search can say what it answers.
 pub trait ItemCheck {
     type Item;
 

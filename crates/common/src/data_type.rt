@@ -1,7 +1,7 @@
 // The six types, and the values that they hold.
 ghost use Rattle.std.specs.Prelude.{◌≡◌};
 ghost use Rattle.std.specs.Option.{ok_or};
-ghost use Rattle.common.specs.Types.{type_number, type_of, unknown_type, holds, fits};
+ghost use Rattle.common.specs.Types.{type_number, type_of, type_named, unknown_type, holds, fits};
 
 use crate::refusal::Fault;
 use std::fmt;
@@ -18,7 +18,7 @@ pub enum DataType {
     Utf8 = 6,
 }
 
-// A constant's value: none, a whole number, or the number of a text that is kept elsewhere.
+// A constant's value: none, a whole number, or the number of a text, which the product's rules leave with the caller.
 #[derive(Clone, Copy, PartialEq, Eq, Debug)]
 pub enum Value {
     Null,
@@ -26,10 +26,10 @@ pub enum Value {
     Text(u32),
 }
 
-// A number that is no type's.
+// What is given as a type and is none.
 #[derive(Clone, Copy, PartialEq, Eq, Debug, Error)]
-#[error("{0} is no type's number; give one of 1 to 6")]
-pub struct UnknownType(pub u8);
+#[error("no such type; give 1 to 6, or Int8, Int16, Int32, Int64, Boolean or Utf8")]
+pub struct UnknownType;
 
 // The type's number, 1 to 6.
 impl From<DataType> for u8 {
@@ -44,7 +44,7 @@ impl From<DataType> for u8 {
 impl TryFrom<u8> for DataType {
     type Error = UnknownType;
 
-    ghost try_from_gives = { λ n r. r ≡ ok_or (type_of n) (unknown_type n) };
+    ghost try_from_gives = { λ n r. r ≡ ok_or (type_of n) unknown_type };
 
     fn try_from(number: u8) -> Result<DataType, UnknownType> {
         match number {
@@ -54,7 +54,26 @@ impl TryFrom<u8> for DataType {
             4 => Ok(DataType::Int64),
             5 => Ok(DataType::Boolean),
             6 => Ok(DataType::Utf8),
-            _ => Err(UnknownType(number)),
+            _ => Err(UnknownType),
+        }
+    }
+}
+
+// The type that a word names.
+impl TryFrom<&[u8]> for DataType {
+    type Error = UnknownType;
+
+    ghost try_from_gives = { λ w r. r ≡ ok_or (type_named w.now) unknown_type };
+
+    fn try_from(word: &[u8]) -> Result<DataType, UnknownType> {
+        match word {
+            b"Int8" => Ok(DataType::Int8),
+            b"Int16" => Ok(DataType::Int16),
+            b"Int32" => Ok(DataType::Int32),
+            b"Int64" => Ok(DataType::Int64),
+            b"Boolean" => Ok(DataType::Boolean),
+            b"Utf8" => Ok(DataType::Utf8),
+            _ => Err(UnknownType),
         }
     }
 }
@@ -64,7 +83,7 @@ impl DataType {
     pub fn known(number: u8, fault: Fault) -> Result<DataType, Fault>
         ensures { result ≡ ok_or (type_of number) fault }
     {
-        DataType::try_from(number).or(Err(fault))
+        DataType::try_from(number).map_err(|_| fault)
     }
 
     // Whether a whole number lies in the type's range.

@@ -45,7 +45,7 @@ impl ItemCheck for FieldCheck<'_> {
 
 // The fields that count.
 #[tactic(auto, using(std::proofs::lemmas::List::take_min), unfolding(crate::specs::Schemas::schema_of))]
-fn counted(fields: &[Field]) -> &[Field]
+fn within_limit(fields: &[Field]) -> &[Field]
     ensures { result.now ≡ schema_of fields.now }
 {
     &fields[..SCHEMA_LIMIT.min(fields.len())]
@@ -54,9 +54,10 @@ fn counted(fields: &[Field]) -> &[Field]
 // The schema that a list of fields is: its first 65,535. The first field with something wrong refuses it, by its name
 // before its type.
 pub fn schema<'a>(text: &[u8], fields: &'a [Field]) -> Result<&'a [Field], Fault>
-    ensures { ok_copied result ≡ or_fault (schema_fault text.now fields.now) (schema_of fields.now) }
+    ensures { ok_copied result
+        ≡ or_fault (schema_fault text.now fields.now) (schema_of fields.now) }
 {
-    let within = counted(fields);
+    let within = within_limit(fields);
     check_items(&FieldCheck { text }, within)?;
     Ok(within)
 }

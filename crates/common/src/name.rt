@@ -1,7 +1,6 @@
 // A name is a part of a text of names: two names are equal by place or by bytes.
 ghost use Rattle.std.specs.Prelude.{◌≡◌, ◌+◌, ◌≤◌, length};
 ghost use Rattle.std.specs.Option.{option_copied};
-ghost use Rattle.std.specs.Str.{bytes_eq};
 ghost use Rattle.common.specs.Names.{Alike, is_name, name_bytes, same_name, bytes_at};
 
 // Only so many bytes of a text hold names.
@@ -9,7 +8,7 @@ pub const TEXT_LIMIT: usize = 65_535;
 
 // A start and a length, as a caller gives them. They are a name of a text where they lie inside its first 65,535 bytes.
 // They are no slice, since the product's rules let a caller give any pair, and refuse one that is no name. There is no `==`
-// either: names are equal over their text alone.
+// either: names are equal over their text alone, which each call is given, since many names lie in one text.
 #[derive(Clone, Copy, Debug)]
 pub struct Name {
     pub start: u32,
@@ -50,6 +49,7 @@ impl Name {
         }
         Some(self.bytes_within(text))
     }
+
     // Whether two names of the text are equal. What is no name is equal to itself alone.
     pub fn equals(self, other: Name, text: &[u8]) -> bool
         ensures value { result ≡ same_name text.now self other }

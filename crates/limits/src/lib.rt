@@ -91,10 +91,10 @@ mod tests {
 
     #[test]
     fn types_are_numbered_1_to_6(rt: HostRuntime) {
-        assert!(rt; DataType::try_from(0).is_err());
-        assert!(rt; DataType::try_from(7).is_err());
-        assert!(rt; DataType::try_from(255).is_err());
-        assert!(rt; DataType::try_from(6) == Ok(DataType::Utf8));
+        assert!(rt; DataType::try_from(0u8).is_err());
+        assert!(rt; DataType::try_from(7u8).is_err());
+        assert!(rt; DataType::try_from(255u8).is_err());
+        assert!(rt; DataType::try_from(6u8) == Ok(DataType::Utf8));
         assert!(rt; u8::from(DataType::Int64) == 4);
     }
 

@@ -68,12 +68,12 @@ impl Shown for Option<Field> {
 
 // Items over their text, one after another.
 #[derive(Clone, Copy)]
-pub(crate) struct Listed<'a, T> {
+pub(crate) struct Joined<'a, T> {
     pub(crate) text: &'a [u8],
     pub(crate) items: &'a [T],
 }
 
-impl<T: Shown> fmt::Display for Listed<'_, T> {
+impl<T: Shown> fmt::Display for Joined<'_, T> {
     fn fmt<W: fmt::Write>(&self, f: &mut fmt::Formatter<W>) -> fmt::Result {
         for (place, item) in self.items.iter().enumerate() {
             if place > 0 {

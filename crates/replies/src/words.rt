@@ -3,8 +3,7 @@ ghost use Rattle.std.specs.Prelude.{◌≡◌, OnOk};
 ghost use Rattle.script.specs.Lines.{line_of};
 ghost use Rattle.session.specs.Steps.{stepped_by};
 
-use crate::show::{IndexList, Listed};
-use common::Trouble;
+use crate::show::{IndexList, Joined};
 use script::parse;
 use session::{Answer, Session};
 use std::alloc::{AllocError, Global};
@@ -28,35 +27,34 @@ fn show_list(heap: Global, session: &Session) -> Result<String, AllocError> {
     };
     match session.columns(heap) {
         Ok(columns) => {
-            let names = Listed {
+            let names = Joined {
                 text: session.text(),
                 items: columns.as_slice(),
             };
             format!(in heap; "{list}: {names}")
         }
-        Err(Trouble::Refused(fault)) => format!(in heap;
-            "{list}; its columns have no names: {fault}"
-        ),
-        Err(Trouble::Memory) => Err(AllocError),
+        Err(trouble) => {
+            let fault = trouble.refused()?;
+            format!(in heap; "{list}; its columns have no names: {fault}")
+        }
     }
 }
 
-// An answer, in words. A `match`: the answers are these, and each has a sentence of its own.
+// An answer, in words. A `match`: the answers are these, and each has its own parts.
 fn show_answer(heap: Global, session: &Session, answer: Answer) -> Result<String, AllocError> {
     match answer {
         Answer::Nothing => Ok(String::new(heap)),
         Answer::Help => String::from_str(heap, HELP),
         Answer::Text(count) => format!(in heap; "a text of {count} bytes"),
-        Answer::Field(place) => format!(in heap; "field {place}"),
         Answer::Schema(count) => {
             let fields = session.fields();
-            let fields = Listed {
+            let fields = Joined {
                 text: session.text(),
                 items: fields.get(..count).unwrap_or(fields),
             };
             format!(in heap; "a schema of {count} fields: {fields}")
         }
-        Answer::Found(place) => format!(in heap; "field {place}"),
+        Answer::Field(place) | Answer::Found(place) => format!(in heap; "field {place}"),
         Answer::Listed(_) => show_list(heap, session),
     }
 }
@@ -69,15 +67,21 @@ pub fn reply(
     number: u64,
     line: &[u8],
 ) -> Result<String, AllocError>
-    ensures { OnOk result (session.new ≡ stepped_by session.old (line_of session.old.text line.now)) }
+    ensures { OnOk result
+        (session.new ≡ stepped_by session.old (line_of session.old.text line.now)) }
 {
-    match parse(heap, session.text(), line) {
-        Ok(line) => match session.perform(heap, line) {
-            Ok(answer) => show_answer(heap, session, answer),
-            Err(Trouble::Refused(fault)) => format!(in heap; "{fault}"),
-            Err(Trouble::Memory) => Err(AllocError),
-        },
-        Err(Trouble::Refused(malformed)) => format!(in heap; "line {number}: {malformed}"),
-        Err(Trouble::Memory) => Err(AllocError),
+    let line = match parse(heap, session.text(), line) {
+        Ok(line) => line,
+        Err(trouble) => {
+            let malformed = trouble.refused()?;
+            return format!(in heap; "line {number}: {malformed}");
+        }
+    };
+    match session.perform(heap, line) {
+        Ok(answer) => show_answer(heap, session, answer),
+        Err(trouble) => {
+            let fault = trouble.refused()?;
+            format!(in heap; "{fault}")
+        }
     }
 }

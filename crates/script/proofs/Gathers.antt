@@ -1,8 +1,8 @@
 -- The numbers of a list are gathered one after the other.
-use Rattle.std.proofs.Common.{◌≡◌, ℕ, Bool, false, cond, List, [], ◌∷◌, ◌++◌, Ok, Err, Result, sym, refl, ap, append_assoc}
-use Rattle.std.proofs.lemmas.Bool.{cond_both}
+use Rattle.std.proofs.Common.{◌≡◌, ℕ, Bool, false, List, [], ◌∷◌, ◌++◌, Ok, Err, Result, sym, refl, ap, append_assoc, arith}
+use Rattle.std.proofs.lemmas.Grind.{common_steps}
 use Rattle.script.specs.declared.line.Malformed.{Malformed}
-use Rattle.script.specs.Lists.{after_list, list_words, numbers_of, stops}
+use Rattle.script.specs.Lists.{after_list, list_words, numbers_of}
 use Rattle.script.specs.Words.{and_then}
 
 -- The numbers so far, and those of the words that are left.
@@ -25,8 +25,4 @@ none_after (w ∷ ws) = none_after ws
 -- What follows a list with no word is all there is.
 pub all_after : (into : Bool) (ws : List (List ℕ)) → list_words into ws ≡ [] → ws ≡ after_list into ws
 all_after into [] e = refl
-all_after into (w ∷ ws) e =
-    cond_both (stops into w) [] (w ∷ list_words into ws) (λ l. l ≡ [] → w ∷ ws ≡ cond (stops into w) (w ∷ ws) (after_list into ws))
-    (λ t h. sym (ap (λ b. cond b (w ∷ ws) (after_list into ws)) t))
-    (λ f h. cc)
-    e
+all_after into (w ∷ ws) e = grind (arith, common_steps)

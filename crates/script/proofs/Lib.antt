@@ -1,6 +1,5 @@
 pub mod Runs
 pub mod Decimals
 pub mod Gathers
-pub mod Patterns
 pub mod Places
 pub mod Examples

@@ -1,11 +1,11 @@
 -- The first place of a text where the bytes of a word stand.
-use Rattle.std.proofs.Common.{◌≡◌, ℕ, zero, suc, ◌-◌, ◌<◌, ◌≤◌, Bool, true, false, cond, not, List, [], ◌∷◌, length, get_or, take, drop, Some, None, Option, nat_eq, sym, refl, ap, ◌∙◌, arith}
+use Rattle.std.proofs.Common.{◌≡◌, ℕ, zero, suc, ◌-◌, ◌<◌, ◌≤◌, Bool, true, false, not, List, [], ◌∷◌, length, get_or, take, drop, Some, None, Option, nat_eq, sym, refl, ap, ◌∙◌, arith}
 use Rattle.std.specs.List.{position, position_or_len, starts_with}
 use Rattle.std.specs.Option.{MatchOption}
 use Rattle.std.proofs.lemmas.List.{take_rest}
 use Rattle.std.proofs.lemmas.List.Sums.{prefix_len_is, prefix_len_passes}
 use Rattle.std.proofs.lemmas.List.Quantifiers.{position-Some}
-use Rattle.std.proofs.lemmas.Bool.{lt-ltb, le-ltb, ltb-false}
+use Rattle.std.proofs.lemmas.Grind.{common_steps}
 use Rattle.common.specs.Firsts.{First}
 use Rattle.script.specs.Names.{place_of, stands_in, tails}
 
@@ -20,19 +20,8 @@ tail_at (b ∷ bs) (suc i) d h = tail_at bs i d (omega arith)
 
 -- ---- what a search says of the items
 
-none_passes : (b : Bool) (n : ℕ) → None ≡ cond b (Some n) None → b ≡ false
-none_passes true n e = cc
-none_passes false n e = refl
-
-fails : (b : Bool) → not b ≡ true → b ≡ false
-fails true e = cc
-fails false e = refl
-
 pub first_law : (test : List ℕ → Bool) (xs : List (List ℕ)) (r : Option ℕ) → r ≡ position test xs → First test xs r
-first_law test xs None e = λ k d h.
-    let n = position_or_len test xs in
-    let all : length xs ≤ n = ltb-false n (length xs) (none_passes _ n e) in
-    fails (test (get_or xs k d)) (prefix_len_passes (λ x. not (test x)) xs k d (omega arith))
+first_law test xs None e = λ k d h. grind (arith, common_steps, prefix_len_passes (λ x. not (test x)) xs k d)
 first_law test xs (Some i) e =
     let at = λ (d : List ℕ). position-Some test xs i d (sym e) in
     ((at []).0, λ d. (at d).1, λ k d h. (at d).2 k h)
@@ -57,9 +46,7 @@ module _ (text word : List ℕ) where
   pub place_is : (r : Option ℕ) → MatchOption r ((k : ℕ) → 0 ≤ k → k < length text → At false k) (λ i. (0 ≤ i) × (i < length text) × At true i × ((k : ℕ) → 0 ≤ k → k < i → At false k)) → r ≡ place_of text word
   place_is None none =
       let n = first (length text) (omega arith) (λ k lt. none k (omega arith) lt) (λ lt. absurd (omega arith)) in
-      let past : length (tails text) ≤ position_or_len (stands_in word) (tails text) = omega (arith, length-tails text, n) in
-      sym (ap (λ b. cond b (Some (position_or_len (stands_in word) (tails text))) None) (le-ltb _ _ past))
+      grind (arith, common_steps, length-tails text)
   place_is (Some i) found =
       let n = first i (omega (arith, found.1)) (λ k lt. found.3 k (omega arith) lt) (λ lt. found.2) in
-      let within : position_or_len (stands_in word) (tails text) < length (tails text) = omega (arith, length-tails text, n, found.1) in
-      sym (ap (λ b. cond b (Some (position_or_len (stands_in word) (tails text))) None) (lt-ltb _ _ within) ∙ ap Some n)
+      grind (arith, common_steps, length-tails text)

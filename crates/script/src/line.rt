@@ -43,6 +43,7 @@ pub enum Malformed {
 // Why no line came out: memory ran out, or the line is malformed.
 pub type ParseError = Trouble<Malformed>;
 
+// Beside that of `Fault`: one impl for every E is refused, as `Trouble` says.
 impl From<Malformed> for Trouble<Malformed> {
     ghost from_gives = { λ m r. r ≡ Refused m };
 

@@ -57,7 +57,7 @@ fn read_combine(heap: Global, words: Words<'_>) -> Result<Line, ParseError>
     Ok(Line::Combine { upper, room })
 }
 
-// What the keyword asks for, with the rest of its line. A `match`: the keywords are these, and each has steps of its own.
+// What the keyword asks for, with the rest of its line. A `match`: the keywords are these, and each takes another rest.
 fn keyword_line(
     heap: Global,
     text: &[u8],
@@ -66,7 +66,7 @@ fn keyword_line(
 ) -> Result<Line, ParseError>
     ensures { Agrees said (keyword_says text.now rest.now keyword) result }
 {
-    let words = Words::of(rest);
+    let words = Words::new(rest);
     match keyword {
         Keyword::Help => {
             words.end()?;

@@ -63,7 +63,7 @@ impl<'a> ListWords<'a> {
     }
 
     // Whether the word `absent` comes next, which is then taken.
-    fn takes_absent(&mut self) -> bool
+    fn take_absent(&mut self) -> bool
         ensures taken { result ≡ comes_next (codes "absent") self.old.left }
         ensures list { self.new.left ≡ (if result then drop 1 self.old.left else self.old.left) }
         ensures after { self.new.after ≡ self.old.after }
@@ -101,7 +101,7 @@ pub(crate) fn index_list(
     ensures value { Agrees (option_map vec_items) (list_of list.old.left) result }
     ensures rest { OnOk result (IsEnded list.old list.new) }
 {
-    if list.takes_absent() {
+    if list.take_absent() {
         if list.next().is_some() {
             return Err(Trouble::Refused(Malformed::ExtraWord));
         }
@@ -110,7 +110,7 @@ pub(crate) fn index_list(
     Ok(Some(numbers(heap, list)?))
 }
 
-// The room that follows a list.
+// The room that follows a list, after the word `into`, at which the list ended.
 pub(crate) fn last_room(mut words: Words<'_>) -> Result<Option<u32>, Malformed>
     ensures { result ≡ room_of words.entry }
 {

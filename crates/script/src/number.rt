@@ -13,10 +13,11 @@ fn more_digit(value: u32, byte: u8) -> Result<u32, Malformed>
         return Err(Malformed::NotANumber);
     }
     let more = u64::from(value) * 10 + u64::from(byte - b'0');
-    u32::try_from(more).or(Err(Malformed::NotANumber))
+    u32::try_from(more).map_err(|_| Malformed::NotANumber)
 }
 
 // The number that the word writes.
+#[tactic(auto, using(crate::proofs::Decimals::read_stops, crate::proofs::Decimals::read_word))]
 pub(crate) fn number(word: &[u8]) -> Result<u32, Malformed>
     ensures { result ≡ number_below (2 ^ 32) word.now }
 {
@@ -34,7 +35,7 @@ pub(crate) fn number(word: &[u8]) -> Result<u32, Malformed>
 pub(crate) fn small_number(word: &[u8]) -> Result<u8, Malformed>
     ensures { result ≡ number_below 256 word.now }
 {
-    u8::try_from(number(word)?).or(Err(Malformed::NotANumber))
+    u8::try_from(number(word)?).map_err(|_| Malformed::NotANumber)
 }
 
 // The one number that is left.

@@ -3,7 +3,7 @@ ghost use Rattle.std.specs.Prelude.{◌≡◌, true, false, ◌∷◌, [], ◌�
 ghost use Rattle.std.specs.Iterator.{YieldsFirstRef, item_count};
 ghost use Rattle.common.specs.Results.{ok_copied};
 ghost use Rattle.script.specs.declared.line.Malformed.TheVariants.{MissingWord};
-ghost use Rattle.script.specs.Words.{alone, blank, comes_next, only_word, run_length, Split, words_of};
+ghost use Rattle.script.specs.Words.{alone, blank, comes_next, only_word, in_run, run_length, Split, words_of};
 
 use crate::line::Malformed;
 use std::marker::Model;
@@ -15,32 +15,34 @@ fn is_blank(byte: u8) -> bool
     matches!(byte, b' ' | b'\t' | b'\r')
 }
 
-// How many blanks the line begins with.
-fn blanks(line: &[u8]) -> usize
-    ensures value { result ≡ run_length true line.now }
-    ensures within { result ≤ length line.now }
+// Whether the byte belongs to a run of blanks, or to one of bytes that are not blank: by a flag, as `run_length` says.
+fn in_run(byte: u8, blanks: bool) -> bool
+    ensures { result ≡ in_run blanks byte }
 {
-    line.iter().take_while(|byte| is_blank(**byte)).count()
+    is_blank(byte) == blanks
 }
 
-// How many bytes that are not blank the line begins with. Beside `blanks`, since one function over a closure could not say
-// which bytes it counts: a contract names what a closure answers, and not by which rule.
-fn word_length(line: &[u8]) -> usize
-    ensures value { result ≡ run_length false line.now }
+// How many bytes the run has that the line begins with: one of blanks, or one of bytes that are not. By a flag: with a const
+// parameter, which was tried, the closure gets no proof.
+fn run_length(line: &[u8], blanks: bool) -> usize
+    ensures value { result ≡ run_length blanks line.now }
     ensures within { result ≤ length line.now }
 {
-    line.iter().take_while(|byte| !is_blank(**byte)).count()
+    line.iter()
+        .take_while(|byte| in_run(**byte, blanks))
+        .count()
 }
 
 // The first word of the line and what follows it, where the line has a word.
+#[tactic(auto, using(crate::proofs::Runs::past_blanks, crate::proofs::Runs::no_word, crate::proofs::Runs::has_word))]
 pub(crate) fn split_word(line: &[u8]) -> Option<(&[u8], &[u8])>
     ensures { Split line.now result }
 {
-    let from = &line[blanks(line)..];
+    let from = &line[run_length(line, true)..];
     if from.is_empty() {
         return None;
     }
-    Some(from.split_at(word_length(from)))
+    Some(from.split_at(run_length(from, false)))
 }
 
 // The words of a line that are still to come.
@@ -74,7 +76,7 @@ impl<'a> Iterator for Words<'a> {
 
 impl<'a> Words<'a> {
     // The words of the line.
-    pub(crate) fn of(line: &'a [u8]) -> Words<'a>
+    pub(crate) fn new(line: &'a [u8]) -> Words<'a>
         ensures { result ≡ words_of line.now }
     {
         Words { rest: line }
@@ -84,10 +86,7 @@ impl<'a> Words<'a> {
     pub(crate) fn comes_next(&self, word: &[u8]) -> bool
         ensures { result ≡ comes_next word.now self.now }
     {
-        match split_word(self.rest) {
-            Some((first, _)) => first == word,
-            None => false,
-        }
+        split_word(self.rest).is_some_and(|(first, _)| first == word)
     }
 
     // Whether this word comes next, which is then taken.

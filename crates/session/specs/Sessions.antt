@@ -1,5 +1,5 @@
 -- What a session keeps, as plain lists.
-use Rattle.std.specs.Prelude.{ℕ, min, List, [], ◌∷◌, ◌++◌, map, length, position, Some, None, Ok, Err, Option, Result}
+use Rattle.std.specs.Prelude.{ℕ, min, List, [], ◌∷◌, ◌++◌, map, length, position, Some, None, Err, Option, Result}
 use Rattle.std.specs.Option.{ok_or}
 use Rattle.common.specs.declared.field.Field.{Field}
 use Rattle.common.specs.declared.name.Name.{Name}
@@ -55,11 +55,6 @@ room_for (Some upper) (Some room) = min room (length upper)
 -- The upper list over the one that stands.
 abbrev pub combine_on : View → Option (List ℕ) → Option ℕ → Result (Option (List ℕ)) Fault
 combine_on v upper room = combine upper v.beneath (room_for upper room)
-
--- The list that stands after an answer: the answer, or what stood before where it is refused.
-abbrev pub standing : Result (Option (List ℕ)) Fault → Option (List ℕ) → Option (List ℕ)
-standing (Ok list) old = list
-standing (Err f) old = old
 
 -- The columns that the standing list picks from the schema, once that has passed its checks: none for an index past its end.
 abbrev pub columns_of : View → Result (List (Option Field)) Fault

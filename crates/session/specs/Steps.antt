@@ -1,14 +1,14 @@
 -- What a line of a script does.
 use Rattle.std.specs.Prelude.{if◌then◌else◌, length, is_ok, Ok, Err, Result}
 use Rattle.std.specs.Option.{option_map}
-use Rattle.std.specs.Result.{result_map_both}
+use Rattle.std.specs.Result.{result_map_both, result_unwrap_or}
 use Rattle.common.specs.declared.refusal.Fault.{Fault}
 use Rattle.index_lists.specs.Combine.{counted}
 use Rattle.script.specs.declared.line.Malformed.{Malformed}
 use Rattle.script.specs.Lines.{Said, says_nothing, says_help, says_text, says_field, says_schema, says_find, says_lower, says_combine}
 use Rattle.session.specs.declared.answer.Answer.{Answer}
 use Rattle.session.specs.declared.answer.Answer.TheVariants.{Nothing, Help, Text, Field, Schema, Found, Listed}
-use Rattle.session.specs.Sessions.{View, combine_on, find_field, schema_count, standing, with_beneath, with_field, with_text}
+use Rattle.session.specs.Sessions.{View, combine_on, find_field, schema_count, with_beneath, with_field, with_text}
 
 -- What a line answers.
 abbrev pub answer_to : View → Said → Result Answer Fault
@@ -30,7 +30,7 @@ view_after v (says_field f) = with_field v f
 view_after v says_schema = v
 view_after v (says_find n) = v
 view_after v (says_lower l) = with_beneath v l
-view_after v (says_combine u room) = with_beneath v (standing (combine_on v u room) v.beneath)
+view_after v (says_combine u room) = with_beneath v (result_unwrap_or (combine_on v u room) v.beneath)
 
 -- A refused line changes nothing.
 abbrev pub stepped : View → Said → View

@@ -14,7 +14,7 @@ use std::alloc::{AllocError, Global};
 fn cells_of(heap: Global, fields: &[Field]) -> Result<Vec<Option<Field>>, AllocError>
     ensures { IfOk result (λ row. row.items ≡ map Some fields.now) }
 {
-    fields.iter().map(|field| Some(*field)).collect(heap)
+    fields.iter().copied().map(Some).collect(heap)
 }
 
 // The row's cells at the indices, `None` for an index past its end.
@@ -25,6 +25,7 @@ fn select_from(
 ) -> Result<Vec<Option<Field>>, Trouble<Fault>>
     ensures { Agrees vec_items (Ok (read_by None row.now indices.now)) result }
 {
+    // `select` writes into a list of its caller's.
     let mut out = vec![in heap; None; indices.len()]?;
     select(row, None, indices, &mut out)?;
     Ok(out)
@@ -36,7 +37,9 @@ fn pick(
     row: Vec<Option<Field>>,
     indices: Option<&[u32]>,
 ) -> Result<Vec<Option<Field>>, Trouble<Fault>>
-    ensures { Agrees vec_items (Ok (read_by_any None row.items (option_copied indices.entry))) result }
+    ensures { Agrees vec_items
+        (Ok (read_by_any None row.items (option_copied indices.entry)))
+        result }
 {
     match indices {
         Some(indices) => select_from(heap, &row, indices),

@@ -12,10 +12,11 @@ use std::alloc::Global;
 
 impl Session {
     // Does what the line says. Refused, or where memory runs out, everything is as before. A `match`: the lines are these, and
-    // each has a call of its own.
+    // each has its own parts.
     pub fn perform(&mut self, heap: Global, line: Line) -> Result<Answer, Trouble<Fault>>
         ensures value { Answers (answer_to self.old (said line)) result }
-        ensures after { self.new ≡ (if is_ok result then view_after self.old (said line) else self.old) }
+        ensures after { self.new
+            ≡ (if is_ok result then view_after self.old (said line) else self.old) }
     {
         match line {
             Line::Blank => Ok(Answer::Nothing),
@@ -29,7 +30,7 @@ impl Session {
             Line::Schema => Ok(Answer::Schema(self.schema_len()?)),
             Line::Find(name) => Ok(Answer::Found(self.find(name)?)),
             Line::Lower(list) => {
-                let count = count_of(&list);
+                let count = count_of(list.as_deref());
                 self.set_beneath(list);
                 Ok(Answer::Listed(count))
             }

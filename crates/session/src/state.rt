@@ -1,12 +1,13 @@
 // The text, the fields and the index list that stand, and the calls on them.
 ghost use Rattle.std.specs.Prelude.{◌≡◌, [], length, is_ok, if◌then◌else◌, Ok, vec_items};
 ghost use Rattle.std.specs.Option.{option_copied, option_map};
+ghost use Rattle.std.specs.Result.{result_unwrap_or};
 ghost use Rattle.common.specs.Results.{ok_copied};
 ghost use Rattle.common.specs.Firsts.{or_fault};
 ghost use Rattle.common.specs.Schemas.{schema_fault, schema_of};
 ghost use Rattle.common.specs.Troubles.{Agrees};
 ghost use Rattle.index_lists.specs.Combine.{combine, counted};
-ghost use Rattle.session.specs.Sessions.{Answers, combine_on, find_field, room_for, schema_count, standing, with_beneath, with_field, with_text};
+ghost use Rattle.session.specs.Sessions.{Answers, combine_on, find_field, room_for, schema_count, with_beneath, with_field, with_text};
 
 use common::{Fault, Field, Name, Refusal, Trouble, first_field, schema};
 use index_lists::combine_projections;
@@ -24,7 +25,7 @@ pub struct Session {
 
 impl Model for Session {
     ghost use Rattle.std.specs.Prelude.{vec_items};
-    ghost use Rattle.std.specs.Option.{option_copied, option_map};
+    ghost use Rattle.std.specs.Option.{option_map};
     ghost use Rattle.session.specs.Sessions.{View};
 
     ghost Value = { View };
@@ -125,34 +126,36 @@ impl Session {
         upper: Option<Vec<u32>>,
         room: Option<u32>,
     ) -> Result<Option<usize>, Trouble<Fault>>
-        ensures value { Answers (counted (combine_on self.old (option_map vec_items upper) room)) result }
+        ensures value { Answers
+            (counted (combine_on self.old (option_map vec_items upper) room))
+            result }
         ensures after { self.new
             ≡ (if is_ok result
             then with_beneath self.old
-            (standing (combine_on self.old (option_map vec_items upper) room) self.old.beneath)
+            (result_unwrap_or (combine_on self.old (option_map vec_items upper) room) self.old.beneath)
             else self.old) }
     {
+        let room = room_for(upper.as_deref(), room);
         let list = combined(heap, upper.as_deref(), self.beneath(), room)?;
-        let count = count_of(&list);
+        let count = count_of(list.as_deref());
         self.set_beneath(list);
         Ok(count)
     }
 }
 
 // An upper list over a lower one, by an output list of so much room, which is cut to the answer: `combine_projections` writes
-// into a list of its caller's. The upper list and the room are the two parts of `Line::Combine`, taken apart once.
+// into a list of its caller's.
 fn combined(
     heap: Global,
     upper: Option<&[u32]>,
     lower: Option<&[u32]>,
-    room: Option<u32>,
+    room: usize,
 ) -> Result<Option<Vec<u32>>, Trouble<Fault>>
     ensures { Agrees (option_map vec_items)
-        (combine (option_copied upper.entry) (option_copied lower.entry)
-        (room_for (option_copied upper.entry) room))
+        (combine (option_copied upper.entry) (option_copied lower.entry) room)
         result }
 {
-    let mut out = vec![in heap; 0; room_for(upper, room)]?;
+    let mut out = vec![in heap; 0; room]?;
     let Some(count) = combine_projections(upper, lower, &mut out)? else {
         return Ok(None);
     };
@@ -169,8 +172,8 @@ fn room_for(upper: Option<&[u32]>, room: Option<u32>) -> usize
 }
 
 // How many indices an optional list has.
-pub(crate) fn count_of(list: &Option<Vec<u32>>) -> Option<usize>
-    ensures { result ≡ option_map length (option_map vec_items list.now) }
+pub(crate) fn count_of(list: Option<&[u32]>) -> Option<usize>
+    ensures { result ≡ option_map length (option_copied list.entry) }
 {
-    list.as_ref().map(|items| items.len())
+    list.map(|indices| indices.len())
 }

@@ -11,12 +11,12 @@ fn asks_for_help(rt: &HostRuntime) -> io::Result<bool> {
     Ok(env::args(rt)?.any(|argument| argument.as_str() == "--help"))
 }
 
-// Shows each line and its answer, and tells how many lines there were.
-fn answer_lines(rt: &HostRuntime) -> io::Result<u64> {
+// Shows each line and its answer, and tells whether there was a line.
+fn answer_lines(rt: &HostRuntime) -> io::Result<bool> {
     let heap = rt.alloc();
     let mut session = Session::new(heap);
     let lines = BufReader::new(heap, rt.stdin())?.split(heap, b'\n');
-    let mut count = 0;
+    let mut answered = false;
     for (number, line) in (1..=u64::MAX).zip(lines) {
         let line = line?;
         let answer = reply(heap, &mut session, number, &line)?;
@@ -27,16 +27,16 @@ fn answer_lines(rt: &HostRuntime) -> io::Result<u64> {
         if !answer.is_empty() {
             println!(rt; "  -> {answer}")?;
         }
-        count = number;
+        answered = true;
     }
-    Ok(count)
+    Ok(answered)
 }
 
 fn main(rt: HostRuntime) -> io::Result<()> {
     if asks_for_help(&rt)? {
         return println!(rt; "{HELP}");
     }
-    if answer_lines(&rt)? == 0 {
+    if !answer_lines(&rt)? {
         println!(rt; "{HELP}")?;
     }
     Ok(())

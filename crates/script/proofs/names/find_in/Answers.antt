@@ -1,3 +1,4 @@
+-- The check leaves these open: what a search over a range finds is told by a lemma on ranges.
 use Rattle.std.proofs.Common.{true, false, rules}
 use Rattle.std.proofs.lemmas.Iterator.{first_from_Range}
 use Rattle.script.specs.Names.{stands_in, tails}

@@ -1,5 +1,6 @@
+-- The check leaves these open at its limits or at half of them: one lemma tells a word by the pattern that it matched.
 use Rattle.std.proofs.Common.{codes, rules}
-use Rattle.script.proofs.Patterns.{spells}
+use Rattle.common.proofs.Patterns.{spells}
 use Rattle.script.proofs.keyword.KeywordTryFromRefSliceU8.try_from.Goals as goal
 
 pub returns-in-help : goal.returns-in-help

@@ -1,6 +1,7 @@
+-- The check leaves these open at its limits or at half of them: one lemma tells a word by the pattern that it matched.
 use Rattle.std.proofs.Common.{codes, rules}
-use Rattle.script.proofs.Patterns.{spells}
-use Rattle.script.proofs.types.named_type.Goals as goal
+use Rattle.common.proofs.Patterns.{spells}
+use Rattle.common.proofs.data_type.DataTypeTryFromRefSliceU8.try_from.Goals as goal
 
 pub returns-in-Int16 : goal.returns-in-Int16
 returns-in-Int16 c = rw (spells c.args.word.now (codes "Int16") (search rules))
