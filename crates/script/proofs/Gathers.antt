@@ -1,5 +1,5 @@
 -- The numbers of a list are gathered one after the other.
-use Rattle.std.proofs.Common.{◌≡◌, ℕ, Bool, false, List, [], ◌∷◌, ◌++◌, Ok, Err, Result, sym, refl, ap, append_assoc, arith}
+use Rattle.std.proofs.Common.{◌≡◌, ℕ, Bool, false, List, [], ◌∷◌, ◌++◌, Ok, Result, refl, ap, arith}
 use Rattle.std.proofs.lemmas.Grind.{common_steps}
 use Rattle.script.specs.declared.line.Malformed.{Malformed}
 use Rattle.script.specs.Lists.{after_list, list_words, numbers_of}
@@ -8,10 +8,6 @@ use Rattle.script.specs.Words.{and_then}
 -- The numbers so far, and those of the words that are left.
 abbrev pub gathered : List ℕ → List (List ℕ) → Result (List ℕ) Malformed
 gathered ns ws = and_then (numbers_of ws) (λ ms. Ok (ns ++ ms))
-
-pub one_more : (ns : List ℕ) (n : ℕ) (r : Result (List ℕ) Malformed) → and_then (and_then r (λ ms. Ok (n ∷ ms))) (λ ms. Ok (ns ++ ms)) ≡ and_then r (λ ms. Ok ((ns ++ n ∷ []) ++ ms))
-one_more ns n (Ok ms) = ap (λ l. Ok l) (sym (append_assoc ns (n ∷ []) ms))
-one_more ns n (Err e) = refl
 
 -- A list that does not end at the word `into` has all the words of its line.
 pub list_to_end : (ws : List (List ℕ)) → list_words false ws ≡ ws

@@ -9,7 +9,7 @@ use Rattle.std.proofs.lemmas.Grind.{common_steps}
 use Rattle.common.specs.Firsts.{First}
 use Rattle.script.specs.Names.{place_of, stands_in, tails}
 
-pub length-tails : (text : List ℕ) → length (tails text) ≡ length text
+length-tails : (text : List ℕ) → length (tails text) ≡ length text
 length-tails [] = refl
 length-tails (b ∷ bs) = ap suc (length-tails bs)
 
