@@ -62,12 +62,16 @@ pub fn schema<'a>(text: &[u8], fields: &'a [Field]) -> Result<&'a [Field], Fault
     Ok(within)
 }
 
-// The place of the first field that has the name.
+// The place of the first field that has the name: a loop over the fields with their places, which returns the place, as the
+// product's look-ups are to be written (docs/DECISIONS.md, Forms).
 pub fn first_field(text: &[u8], fields: &[Field], name: Name) -> Option<usize>
     ensures value { result ≡ position (has_name text.now name) fields.now }
     ensures law { First (has_name text.now name) fields.now result }
 {
-    fields
-        .iter()
-        .position(|field| field.name.equals(name, text))
+    for (place, field) in fields.iter().enumerate() {
+        if field.name.equals(name, text) {
+            return Some(place);
+        }
+    }
+    None
 }

@@ -55,13 +55,11 @@ impl Name {
         ensures value { result ≡ same_name text.now self other }
         ensures law { Alike text.now self other result }
     {
-        // One pair is one name: compared here, since `Name` is to have no `==`.
+        // One pair is one name: compared here, since `Name` is to have no `==`. Then test by test: taking both runs of bytes
+        // first, by `bytes`, takes half as long again where the names differ.
         if self.start == other.start && self.len == other.len {
             return true;
         }
-        match (self.bytes(text), other.bytes(text)) {
-            (Some(own), Some(others)) => own == others,
-            _ => false,
-        }
+        self.is_in(text) && other.is_in(text) && self.bytes_within(text) == other.bytes_within(text)
     }
 }

@@ -50,6 +50,11 @@ abbrev pub Split : List ℕ → Option (Bor (List ℕ) × Bor (List ℕ)) → Ty
 Split line None = words_of line ≡ []
 Split line (Some p) = (words_of line ≡ p.0.now ∷ words_of p.1.now) × (p.0.now ≡ first_word line) × (p.1.now ≡ after_word line)
 
+-- The first of some words and the words after it; none where no word is left.
+abbrev pub FirstAndRest : List (List ℕ) → Option (Bor (List ℕ) × List (List ℕ)) → Type 0
+FirstAndRest ws None = ws ≡ []
+FirstAndRest ws (Some p) = ws ≡ p.0.now ∷ p.1
+
 -- Whether a word begins with the byte.
 abbrev pub begins_with : ℕ → List ℕ → Bool
 begins_with byte [] = false

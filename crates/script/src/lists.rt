@@ -37,10 +37,12 @@ impl<'a> Iterator for ListWords<'a> {
     ghost remaining = { item_count (λ l. l.left) };
 
     fn next(&mut self) -> Option<&'a [u8]> {
-        if self.into && self.words.comes_next(b"into") {
+        let (word, rest) = self.words.split()?;
+        if self.into && word == b"into".as_slice() {
             return None;
         }
-        self.words.next()
+        self.words = rest;
+        Some(word)
     }
 }
 

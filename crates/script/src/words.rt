@@ -3,7 +3,7 @@ ghost use Rattle.std.specs.Prelude.{◌≡◌, true, false, ◌∷◌, [], ◌�
 ghost use Rattle.std.specs.Iterator.{YieldsFirstRef, item_count};
 ghost use Rattle.common.specs.Results.{ok_copied};
 ghost use Rattle.script.specs.declared.line.Malformed.TheVariants.{MissingWord};
-ghost use Rattle.script.specs.Words.{alone, blank, comes_next, only_word, in_run, run_length, Split, words_of};
+ghost use Rattle.script.specs.Words.{alone, blank, comes_next, only_word, in_run, run_length, FirstAndRest, Split, words_of};
 
 use crate::line::Malformed;
 use std::marker::Model;
@@ -68,8 +68,8 @@ impl<'a> Iterator for Words<'a> {
     ghost remaining = { item_count (λ s. s) };
 
     fn next(&mut self) -> Option<&'a [u8]> {
-        let (word, rest) = split_word(self.rest)?;
-        self.rest = rest;
+        let (word, rest) = self.split()?;
+        *self = rest;
         Some(word)
     }
 }
@@ -82,11 +82,12 @@ impl<'a> Words<'a> {
         Words { rest: line }
     }
 
-    // Whether this word comes next.
-    pub(crate) fn comes_next(&self, word: &[u8]) -> bool
-        ensures { result ≡ comes_next word.now self.now }
+    // The next word and the words after it, where a word is left: to look at a word and then take it is one split.
+    pub(crate) fn split(&self) -> Option<(&'a [u8], Words<'a>)>
+        ensures { FirstAndRest self.now result }
     {
-        split_word(self.rest).is_some_and(|(first, _)| first == word)
+        let (word, rest) = split_word(self.rest)?;
+        Some((word, Words { rest }))
     }
 
     // Whether this word comes next, which is then taken.
@@ -94,11 +95,13 @@ impl<'a> Words<'a> {
         ensures taken { result ≡ comes_next word.now self.old }
         ensures rest { self.new ≡ (if result then drop 1 self.old else self.old) }
     {
-        let comes = self.comes_next(word);
-        if comes {
-            let _ = self.next();
+        match self.split() {
+            Some((next, rest)) if next == word => {
+                *self = rest;
+                true
+            }
+            _ => false,
         }
-        comes
     }
 
     // Takes the next word, which must be there.
