@@ -136,7 +136,7 @@ impl Session {
             else self.old) }
     {
         let room = room_for(upper.as_deref(), room);
-        let list = combined(heap, upper.as_deref(), self.beneath(), room)?;
+        let list = combined(heap, upper.as_deref(), self.beneath.as_deref(), room)?;
         let count = count_of(list.as_deref());
         self.set_beneath(list);
         Ok(count)
